@@ -1,0 +1,3 @@
+-- Laws that every crate shares.
+pub mod Test
+pub mod BytesLaws

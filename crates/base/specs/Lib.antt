@@ -1,0 +1,3 @@
+-- Definitions that every crate shares.
+pub mod Bytes
+pub mod Event

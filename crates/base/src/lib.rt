@@ -1,0 +1,1 @@
+// Definitions and laws that every crate shares. There is no code here: see specs/.

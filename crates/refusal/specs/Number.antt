@@ -1,0 +1,29 @@
+-- Document 01, "Numbers of refusal": the number of each refusal.
+use mathlib.Core.Bool.{Bool, true, false}
+use Prim.Native.Nat.{ℕ}
+use Rattle.refusal.specs.declared.Refusal.{Refusal}
+use Rattle.refusal.specs.declared.Refusal.the-variants as R
+use Rattle.refusal.specs.declared.Whether.{Whether}
+use Rattle.refusal.specs.declared.Whether.the-variants as W
+
+-- the number in the table
+abbrev pub number : Refusal → ℕ
+number R.Side = 1
+number R.Cells = 2
+number R.Parameter = 3
+number R.Verdicts = 4
+number R.Verdict = 5
+number R.Room = 6
+number R.Numbers = 7
+number R.Damaged = 8
+number R.TooLarge = 9
+number R.EndsEarly = 10
+number R.HeadZero = 11
+number R.Picture = 12
+number R.Empty = 13
+number R.Sheet = 14
+
+-- yes or no, by a test
+abbrev pub answered : Bool → Whether
+answered true = W.Yes
+answered false = W.No
