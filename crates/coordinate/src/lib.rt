@@ -1,0 +1,112 @@
+// Coordinates: an index and a level on one axis of the picture. Document 01, "Small numbers and coordinates".
+// The level k is kept as its rank, k + 48, an unsigned number: -32 to 15 is 16 to 63, and rank 48 is one pixel wide.
+// A lone coordinate outside the ranges is refused by 8.
+ghost use mathlib.Core.Path.{_≡_};
+ghost use Prim.Native.Nat.{_<_};
+ghost use Rattle.coordinate.specs.Axis.{ordinaryFloor, inside};
+ghost use Rattle.coordinate.specs.Lone.{legal, pixelAsked, halvesAsked, subdivisibleAsked, insideAsked};
+use refusal::Refusal;
+use refusal::Whether;
+
+// The stretch of one axis from i times 2^k to (i + 1) times 2^k, in pixels.
+#[repr(C)]
+pub struct Coordinate {
+    pub index: u64,
+    // k + 48
+    pub rank: u8,
+}
+
+// The pixel that a coordinate begins in.
+pub enum PixelAnswer {
+    At(u64),
+    Refused(Refusal),
+}
+
+// The two halves of a coordinate.
+pub enum Halved {
+    Halves { low: Coordinate, high: Coordinate },
+    Refused(Refusal),
+}
+
+// Whether index and level are in the ranges.
+pub fn is_legal(c: Coordinate) -> bool
+    ensures { λ r. ⌜ r ≡ legal ordinaryFloor c ⌝ }
+{
+    (16 <= c.rank) & (c.rank < 64) & (c.index < 140737488355328)
+}
+
+// The pixel that the coordinate begins in, uncut.
+pub fn pixel_index(c: Coordinate) -> PixelAnswer
+    ensures { λ r. ⌜ r ≡ pixelAsked ordinaryFloor c ⌝ }
+{
+    if !is_legal(c) {
+        return PixelAnswer::Refused(Refusal::Damaged);
+    }
+    let rank = c.rank;
+    if rank < 48 {
+        PixelAnswer::At(c.index >> (48 - rank))
+    } else {
+        PixelAnswer::At(c.index << (rank - 48))
+    }
+}
+
+// The halves, one level down. Refused too where they would leave the ranges.
+pub fn subdivide(c: Coordinate) -> Halved
+    ensures { λ r. ⌜ r ≡ halvesAsked ordinaryFloor c ⌝ }
+{
+    if !is_legal(c) {
+        return Halved::Refused(Refusal::Damaged);
+    }
+    let index = 2 * c.index;
+    let rank = c.rank - 1;
+    let low = Coordinate { index, rank };
+    let high = Coordinate {
+        index: index + 1,
+        rank,
+    };
+    if (16 < c.rank) & is_legal(high) {
+        Halved::Halves { low, high }
+    } else {
+        Halved::Refused(Refusal::Damaged)
+    }
+}
+
+// Whether there is a level below.
+pub fn is_subdivisible(c: Coordinate) -> Whether
+    ensures { λ r. ⌜ r ≡ subdivisibleAsked ordinaryFloor c ⌝ }
+{
+    if !is_legal(c) {
+        return Whether::Refused(Refusal::Damaged);
+    }
+    if 16 < c.rank {
+        Whether::Yes
+    } else {
+        Whether::No
+    }
+}
+
+// Whether the coordinate begins inside a side of so many pixels.
+pub fn is_inside(c: Coordinate, side: u32) -> Whether
+    ensures { λ r. ⌜ r ≡ insideAsked ordinaryFloor c side ⌝ }
+{
+    if !is_legal(c) {
+        return Whether::Refused(Refusal::Damaged);
+    }
+    if begins_inside(c.index, c.rank, side as u64) {
+        Whether::Yes
+    } else {
+        Whether::No
+    }
+}
+
+// The same without a product, which could be too large: a comparison of pixels below the pixel level, of places from it up.
+fn begins_inside(index: u64, rank: u8, side: u64) -> bool
+    requires { ⌜ (rank < 64) × (side < 4294967296) ⌝ }
+    ensures { λ r. ⌜ r ≡ inside side rank index ⌝ }
+{
+    if rank < 48 {
+        index >> (48 - rank) < side
+    } else {
+        index < (side + ((1 << (rank - 48)) - 1)) >> (rank - 48)
+    }
+}
