@@ -1,0 +1,12 @@
+-- `float::infinity` meets its contract: 1 / 0 is computed. Assumes nothing.
+use mathlib.Core.Path.{refl}
+use lib.Ieee.{div, ofBits}
+use Rattle.interval.proofs.float.infinity.Statement.{statement}
+use Rattle.interval.proofs.float.infinity.Tie as tie
+
+returns : tie.Need-returns
+unfolding div ofBits
+returns c = refl
+
+pub infinity-spec : {M : Type 1} → statement M
+infinity-spec = tie.close (tie.spec returns)
