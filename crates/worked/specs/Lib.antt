@@ -1,0 +1,2 @@
+-- The words in which the table is written.
+pub mod Words
