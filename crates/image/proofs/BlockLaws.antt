@@ -1,0 +1,66 @@
+-- What is done to a block's rectangle and seen in it, pixel by pixel: in terms of which pixels the block's coordinates cover. Assumes nothing.
+use mathlib.Core.Path.{_≡_, refl, sym, ap, _∙_}
+use mathlib.Core.Bool.{Bool, true, false, cond, _&&_, false≢true, true≢false}
+use mathlib.Core.List.{List}
+use Prim.Native.Nat.{ℕ, _-_, _*_, _/_, _%_, _≤_, _<_}
+use native.Mathlib.Decide.{decLt}
+use native.Mathlib.Omega.{arith}
+use lib.Dec.{leb}
+use lib.ListN.{length, getD}
+use Rattle.coordinate.specs.declared.Coordinate.{Coordinate}
+use Rattle.coordinate.specs.Axis.{covers1}
+use Rattle.image.specs.declared.Op.{Op}
+use Rattle.image.specs.Cell.{Cell, Named, Marked, GivenUp, Other, doneTo, isMarked}
+use Rattle.image.specs.Range.{cellIndex, holdsCell, pictureReady, rectangleOf}
+use Rattle.image.specs.Painting.{painted, pixelCell, heldCells, everyOf}
+use Rattle.image.proofs.RangeLaws.{cell-below, cell-pixel, beyond-not-held, rectangle-in-picture, rectangle-covers}
+use Rattle.image.proofs.PaintLaws.{painted-cell}
+use Rattle.image.proofs.CountLaws.{every-held, held-every}
+
+-- a block's rectangle asks only for enough cells
+pub rectangle-ready : (x y : Coordinate) (width height n : ℕ) → pictureReady width height (rectangleOf x y width height) n ≡ leb (width * height) n
+unfolding pictureReady
+rectangle-ready x y width height n = ap (λ (b : Bool). b && leb (width * height) n) (rectangle-in-picture x y width height)
+
+module _ (x y : Coordinate) (width height : ℕ) (l : List Cell) (enough : width * height ≤ length l) where
+  -- a pixel's cell afterwards is a function of what it was and of whether the block covers the pixel
+  pub painted-pixel : (op : Op) (px py : ℕ) → px < width → py < height
+      → pixelCell width height px py (painted width (rectangleOf x y width height) op l)
+      ≡ cond (covers1 (x .rank) (x .index) px && covers1 (y .rank) (y .index) py) (doneTo op (pixelCell width height px py l)) (pixelCell width height px py l)
+  painted-pixel op px py h k =
+      painted-cell width (rectangleOf x y width height) op l (cellIndex width height px py) (Named 0) (omega (arith, cell-below width height px py h k))
+      ∙ ap (λ (b : Bool). cond b (doneTo op (pixelCell width height px py l)) (pixelCell width height px py l)) (rectangle-covers x y width height px py h k)
+
+  -- every cell of the rectangle passes a test exactly if every covered pixel's does
+  pub every-pixel : (test : Cell → Bool) → everyOf test (heldCells width (rectangleOf x y width height) l) ≡ true
+      → (px py : ℕ) → px < width → py < height → (covers1 (x .rank) (x .index) px && covers1 (y .rank) (y .index) py) ≡ true
+      → test (pixelCell width height px py l) ≡ true
+  every-pixel test e px py h k c =
+      every-held test width (rectangleOf x y width height) l (Named 0) e (cellIndex width height px py) (omega (arith, cell-below width height px py h k))
+      (rectangle-covers x y width height px py h k ∙ c)
+
+  pub pixels-every : (test : Cell → Bool)
+      → ((px py : ℕ) → px < width → py < height → (covers1 (x .rank) (x .index) px && covers1 (y .rank) (y .index) py) ≡ true → test (pixelCell width height px py l) ≡ true)
+      → everyOf test (heldCells width (rectangleOf x y width height) l) ≡ true
+  pixels-every test f =
+      held-every test width (rectangleOf x y width height) l (Named 0)
+      (λ i h t. elim (decLt i (width * height)) [
+        | yes k ↦ pixel i k t
+        | no k ↦ absurd (true≢false (sym t ∙ beyond-not-held width height (rectangleOf x y width height) i (rectangle-in-picture x y width height) (omega arith)))
+      ])
+    where
+      pixel : (i : ℕ) → i < width * height → holdsCell width (rectangleOf x y width height) i ≡ true → test (getD l i (Named 0)) ≡ true
+      pixel i k t =
+          let p = cell-pixel width height i k in
+          let px = i % width in
+          let py = height - 1 - i / width in
+          sym (ap (λ (n : ℕ). test (getD l n (Named 0))) (p .2))
+          ∙ f px py (p .0) (p .1) (sym (rectangle-covers x y width height px py (p .0) (p .1)) ∙ ap (holdsCell width (rectangleOf x y width height)) (p .2) ∙ t)
+
+-- a cell that passes as True is True
+pub marked-is : (c : Cell) → isMarked c ≡ true → c ≡ Marked
+unfolding isMarked
+marked-is (Named n) e = absurd (false≢true e)
+marked-is Marked e = refl
+marked-is GivenUp e = absurd (false≢true e)
+marked-is (Other n) e = absurd (false≢true e)

@@ -1,0 +1,4 @@
+-- The definitions that the contracts cite.
+pub mod Cell
+pub mod Range
+pub mod Painting
