@@ -1,0 +1,32 @@
+-- What is proved. Theorems is the reader's entry: each promise under its sentence.
+pub mod Theorems
+-- demand 3
+pub mod Settled
+pub mod StandingLaws
+pub mod Invariant
+pub mod FalseRule
+pub mod FirstInFirstOut
+pub mod TrueStays
+pub mod RunLaws
+-- the bound
+pub mod ListLaws
+pub mod Potential
+pub mod Sums
+pub mod PlaceLaws
+pub mod AxisLaws
+pub mod ChildPlaces
+pub mod PlaceCount
+pub mod Bounds
+-- the colours, and the covering laws
+pub mod TurnLaws
+pub mod TrueMeansYes
+pub mod WhiteMeansNo
+pub mod HalvesHold
+pub mod Edges
+pub mod IntegerLaws
+pub mod CutsHold
+-- closed instances
+pub mod ExamplePicture
+pub mod ExamplePromises
+pub mod ExampleParameter
+pub mod ExampleStrip

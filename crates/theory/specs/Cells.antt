@@ -1,0 +1,37 @@
+-- Document 01, "Picture and step": what stands in a cell, what a pixel reads by it, and the two ways in which a step changes a number.
+--
+--   named n  --a queued child covers the pixel-->  named m  --the queue passes m by-->  reads False
+--      |                                                                  (nothing is written: it is the reading that changes)
+--      +--a marked child covers the pixel-->  isTrue  --giving up, unless it spares True-->  givenUp
+--      +--giving up-->  givenUp  --a marked child covers the pixel-->  isTrue
+use mathlib.Core.Bool.{Bool, cond}
+use Prim.Native.Nat.{ℕ}
+use lib.Dec.{leb}
+
+-- what stands in a cell: True, given up, or the number of a block
+pub data Standing : Type 0 where
+  isTrue : Standing
+  givenUp : Standing
+  named : ℕ → Standing
+
+-- what a pixel reads
+pub data PixelReading : Type 0 where
+  readsTrue readsFalse readsUncertain : PixelReading
+
+-- "a number cell reads Uncertain if it is at least the number of blocks taken so far, else False; a given-up cell reads Uncertain"
+unfoldable pub standingReads : ℕ → Standing → PixelReading
+standingReads taken isTrue = readsTrue
+standingReads taken givenUp = readsUncertain
+standingReads taken (named n) = cond (leb taken n) readsUncertain readsFalse
+
+-- "each covered cell that names the taken block or a later one names the new": the taken block's number is that of the blocks taken before it
+unfoldable pub renamed : ℕ → ℕ → Standing → Standing
+renamed taken new isTrue = isTrue
+renamed taken new givenUp = givenUp
+renamed taken new (named n) = cond (leb taken n) (named new) (named n)
+
+-- "all cells of the parent become given up, True ones too"; the sparing mode leaves the True ones
+unfoldable pub afterGivingUp : Bool → Standing → Standing
+afterGivingUp spare isTrue = cond spare isTrue givenUp
+afterGivingUp spare givenUp = givenUp
+afterGivingUp spare (named n) = givenUp

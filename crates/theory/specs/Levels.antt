@@ -1,0 +1,83 @@
+-- The bound's words: places, their levels, what a place can still cost, and how many places a picture has on a level.
+-- Levels are natural numbers, counted from a lowest one; px is the level of a pixel, document 01's level 0, and may stand anywhere above it, and so
+-- may the floor. (Where a level stands as its rank, px is 48.) A unit is the width of a place of the lowest level: a side of w pixels is w * 2 ^ px
+-- units, and a place of level j is 2 ^ j units wide.
+use mathlib.Core.Path.{_≡_}
+use mathlib.Core.Logic.{_⊎_}
+use mathlib.Core.Bool.{Bool}
+use mathlib.Core.List.{List, [], _∷_, map, Sublistᴰ}
+use Prim.Native.Nat.{ℕ, zero, suc, _+_, _-_, _*_, _/_, _^_, _≤_, _<_}
+use Rattle.theory.specs.Lists.{Every, sumOver}
+use Rattle.theory.specs.Runs.{Snapshot, queuedBy, FinishedStep}
+
+-- where a block lies: its indices and its level
+pub record Place : Type 0 where
+  pub x : ℕ
+  pub y : ℕ
+  pub level : ℕ
+
+abbrev pub placeAt : ℕ → ℕ → ℕ → Place
+placeAt x y j = record { x = x; y = y; level = j }
+
+-- the places in the first n levels of the tree that cutting makes of a place
+unfoldable pub treeSize : (Place → List Place) → ℕ → Place → ℕ
+treeSize cut zero b = zero
+treeSize cut (suc n) b = suc (sumOver (treeSize cut n) (cut b))
+
+-- what a place can still cost above level L: one step for each place of its tree that lies above L
+unfoldable pub costAbove : (Place → List Place) → ℕ → Place → ℕ
+costAbove cut L b = treeSize cut (b .level - L) b
+
+-- the start of a picture of w by h with x or y and no parameter: one block, as wide as the larger side at least; k is the start level, counted
+-- from the pixel's. (That k is the least such plays no part.)
+pub record OneBlock {Block Pixel : Type 0} (placeOf : Block → Place) (px w h k : ℕ) (s : Snapshot Block Pixel) : Type 0 where
+  pub some-width : zero < w
+  pub some-height : zero < h
+  pub wide : w ≤ 2 ^ k
+  pub high : h ≤ 2 ^ k
+  pub root : Block
+  pub at-root : placeOf root ≡ placeAt 0 0 (px + k)
+  pub one-block : s .queue ≡ root ∷ []
+
+-- the step queues nothing but children of the taken block's place, in their order: its queued places are the children with some left out
+unfoldable pub QueuesChildren : {Block Pixel : Type 0} (covers : Block → Pixel → Bool) (spare : Bool) (placeOf : Block → Place) (cut : Place → List Place)
+    (s s′ : Snapshot Block Pixel) → FinishedStep covers spare s s′ → Type 0
+QueuesChildren covers spare placeOf cut s s′ st = Sublistᴰ (map placeOf (queuedBy (st .events))) (cut (placeOf (st .front)))
+
+-- the step queues nothing on the floor
+unfoldable pub QueuesAbove : {Block Pixel : Type 0} (covers : Block → Pixel → Bool) (spare : Bool) (placeOf : Block → Place) (floor : ℕ)
+    (s s′ : Snapshot Block Pixel) → FinishedStep covers spare s s′ → Type 0
+QueuesAbove covers spare placeOf floor s s′ st = Every (λ b. floor < placeOf b .level) (queuedBy (st .events))
+
+-- "levels never rise from the front of the queue to its back"
+unfoldable pub NeverRise : List Place → Type 0
+NeverRise [] = Unit {0}
+NeverRise (b ∷ q) = Every (λ c. c .level ≤ b .level) q × NeverRise q
+
+-- "at most two neighbouring levels are queued": all are on level j or on the one above it
+unfoldable pub OnTwoLevels : ℕ → List Place → Type 0
+OnTwoLevels j q = Every (λ c. (c .level ≡ j) ⊎ (c .level ≡ suc j)) q
+
+-- f 0 + f 1 + .. + f (n - 1)
+unfoldable pub sumTo : ℕ → (ℕ → ℕ) → ℕ
+sumTo zero f = zero
+sumTo (suc n) f = sumTo n f + f n
+
+-- how many places of level j there are along a side of W units: W / 2 ^ j, rounded up
+unfoldable pub placesAlong : ℕ → ℕ → ℕ
+placesAlong W j = (W + (2 ^ j - 1)) / 2 ^ j
+
+-- the places of a picture on the n levels above L
+unfoldable pub placesAbove : ℕ → ℕ → ℕ → ℕ → ℕ
+placesAbove W H L n = sumTo n (λ i. placesAlong W (L + suc i) * placesAlong H (L + suc i))
+
+-- those of a strip, which is cut along x alone
+unfoldable pub stripPlacesAbove : ℕ → ℕ → ℕ → ℕ
+stripPlacesAbove W L n = sumTo n (λ i. placesAlong W (L + suc i))
+
+-- "the sum, over j from 1 to the start level, of ceil(width / 2^j) times ceil(height / 2^j)"; of a strip, of ceil(width / 2^j)
+unfoldable pub pixelFigure : ℕ → ℕ → ℕ → ℕ
+pixelFigure w h k = sumTo k (λ i. placesAlong w (suc i) * placesAlong h (suc i))
+
+unfoldable pub stripPixelFigure : ℕ → ℕ → ℕ
+stripPixelFigure w k = sumTo k (λ i. placesAlong w (suc i))

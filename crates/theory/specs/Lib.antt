@@ -1,0 +1,10 @@
+-- The abstract engine, and the words in which its promises are stated.
+pub mod Lists
+pub mod Cells
+pub mod Runs
+pub mod Demand3
+pub mod Levels
+pub mod Shapes
+pub mod Colours
+pub mod Positions
+pub mod Cuts

@@ -1,0 +1,16 @@
+-- What holds of every member of a list, what holds of some member, and a sum over the members.
+use mathlib.Core.Logic.{_⊎_}
+use mathlib.Core.List.{List, [], _∷_}
+use Prim.Native.Nat.{ℕ, zero, _+_}
+
+unfoldable pub Every : {A : Type 0} → (A → Type 0) → List A → Type 0
+Every P [] = Unit {0}
+Every P (a ∷ l) = P a × Every P l
+
+unfoldable pub Some : {A : Type 0} → (A → Type 0) → List A → Type 0
+Some P [] = ⊥
+Some P (a ∷ l) = P a ⊎ Some P l
+
+unfoldable pub sumOver : {A : Type 0} → (A → ℕ) → List A → ℕ
+sumOver f [] = zero
+sumOver f (a ∷ l) = f a + sumOver f l
