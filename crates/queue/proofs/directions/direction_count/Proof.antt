@@ -1,0 +1,57 @@
+-- `direction_count` meets its contract: the sum of the counts is the length of the list. Assumes nothing.
+use native.Mathlib.Omega.{arith}
+use Rattle.queue.proofs.DirectionLaws.{directions-length}
+use borrow.Author.Needs.{needs}
+use Rattle.queue.proofs.directions.direction_count.Statement.{statement}
+use Rattle.queue.proofs.directions.direction_count.Tie as tie
+
+count-of-requires : tie.Need-count-of-requires
+count-of-requires c κs = search needs
+
+count-of-requires-2 : tie.Need-count-of-requires-2
+count-of-requires-2 c κs = search needs
+
+count-of-requires-3 : tie.Need-count-of-requires-3
+count-of-requires-3 c κs = search needs
+
+count-of-requires-4 : tie.Need-count-of-requires-4
+count-of-requires-4 c κs = search needs
+
+count-of-requires-5 : tie.Need-count-of-requires-5
+count-of-requires-5 c κs = search needs
+
+add-result : tie.Need-add-result
+add-result c = omega arith
+
+add-result-2 : tie.Need-add-result-2
+add-result-2 c = omega arith
+
+add-result-3 : tie.Need-add-result-3
+add-result-3 c = omega arith
+
+add-result-4 : tie.Need-add-result-4
+add-result-4 c = omega arith
+
+returns : tie.Need-returns
+returns c =
+    directions-length (c .before .before .before .before .before .args .set) _ _ _ _ _
+    (c .before .before .before .before .count-of .ensures .0)
+    (c .before .before .before .count-of2 .ensures .0)
+    (c .before .before .count-of3 .ensures .0)
+    (c .before .count-of4 .ensures .0)
+    (c .count-of5 .ensures .0)
+
+pub direction-count-spec : {M : Type 1} → statement M
+direction-count-spec =
+    tie.close
+    (tie.spec
+    count-of-requires
+    count-of-requires-2
+    count-of-requires-3
+    count-of-requires-4
+    count-of-requires-5
+    add-result
+    add-result-2
+    add-result-3
+    add-result-4
+    returns)

@@ -1,0 +1,48 @@
+-- `measure` meets its contract. Assumes nothing.
+use mathlib.Core.Path.{sym, _∙_}
+use native.Mathlib.Omega.{arith}
+use Rattle.queue.proofs.QueueAnswers.{denied, granted, codable-both, measured-no, measured-yes}
+use borrow.Author.Needs.{needs}
+use Rattle.queue.proofs.measure.Statement.{statement}
+use Rattle.queue.proofs.measure.Tie as tie
+
+is-codable-requires : tie.Need-is-codable-requires
+is-codable-requires c κs = search needs
+
+returns : tie.Need-returns
+returns c =
+    let a = c .before .before .args in
+    measured-no (a .set) (a .back) (a .b) (sym (c .before .is-codable .ensures) ∙ denied _ (c .if1 .taken))
+
+settle-requires : tie.Need-settle-requires
+settle-requires c κs = search needs
+
+slice-aggregate-put-block : tie.Need-slice-aggregate-put-block
+slice-aggregate-put-block c = search needs
+
+put-block-requires : tie.Need-put-block-requires
+put-block-requires c κs =
+    let a = c .before .before .before .before .args in
+    let k = codable-both (a .set) (a .back) (a .b) (sym (c .before .before .before .is-codable .ensures) ∙ granted _ (c .before .before .if1 .left)) in
+    (omega arith, rw (c .before .settle .ensures) (k .0), k .1)
+
+remember-requires : tie.Need-remember-requires
+remember-requires c κs = search needs
+
+returns-2 : tie.Need-returns-2
+returns-2 c =
+    let a = c .before .before .before .before .before .before .before .args in
+    measured-yes (a .set) (a .back) (a .b) (c .before .before .before .before .settle .result) _ (c .remember .result) (sym (c .before .before .before .before .before .before .is-codable .ensures) ∙ granted _ (c .before .before .before .before .before .if1 .left))
+    (c .before .before .before .before .settle .ensures) (c .before .before .put-block .ensures .0) (c .remember .ensures)
+
+pub measure-spec : {M : Type 1} → statement M
+measure-spec =
+    tie.close
+    (tie.spec
+    is-codable-requires
+    returns
+    settle-requires
+    slice-aggregate-put-block
+    put-block-requires
+    remember-requires
+    returns-2)

@@ -1,0 +1,41 @@
+-- `read_place` meets its contract. Assumes nothing.
+use mathlib.Core.Path.{sym, _∙_}
+use mathlib.Core.List.{_++_}
+use native.Mathlib.Omega.{arith}
+use lib.ListN.{length-append}
+use Rattle.queue.proofs.BlockReading.{place-none, place-some, coordinate-inside}
+use borrow.Author.Needs.{needs}
+use Rattle.queue.proofs.read.read_place.Statement.{statement}
+use Rattle.queue.proofs.read.read_place.Tie as tie
+
+read-coordinate-requires : tie.Need-read-coordinate-requires
+read-coordinate-requires c κs = search needs
+
+enum-told : tie.Need-enum-told
+enum-told c = search needs
+
+enum-known-x : tie.Need-enum-known-x
+enum-known-x c = search needs
+
+read-y-requires : tie.Need-read-y-requires
+read-y-requires c κs =
+    let a = c .before .before .before .before .before .before .args in
+    let s = a .older .now ++ a .newer .now in
+    let g = c .before .x .given in
+    omega (arith, coordinate-inside (a .last .x) s (g .0 .0) (g .0 .1 .0) (sym (g .1) ∙ c .before .before .before .read-coordinate .ensures), length-append (a .older .now) (a .newer .now))
+
+returns : tie.Need-returns
+returns c =
+    let a = c .before .before .before .before .before .args in
+    place-none (a .last) (a .older .now ++ a .newer .now) (sym (c .enum-told .given .1) ∙ c .before .before .read-coordinate .ensures)
+
+returns-2 : tie.Need-returns-2
+returns-2 c =
+    let a = c .before .before .before .before .before .before .before .args in
+    let g = c .before .before .x .given in
+    c .read-y .ensures ∙ place-some (a .last) (a .older .now ++ a .newer .now) (g .0 .0) (g .0 .1 .0) (sym (g .1) ∙ c .before .before .before .before .read-coordinate .ensures)
+
+pub read-place-spec : {M : Type 1} → statement M
+read-place-spec =
+    tie.close
+    (tie.spec read-coordinate-requires enum-told enum-known-x read-y-requires returns returns-2)

@@ -1,0 +1,21 @@
+-- `byte_at` meets its contract: the first byte of the part. Assumes nothing.
+use borrow.Author.Needs.{needs}
+use Rattle.queue.proofs.RingLaws.{part-head}
+use Rattle.queue.proofs.ring.byte_at.Statement.{statement}
+use Rattle.queue.proofs.ring.byte_at.Tie as tie
+
+part-requires : tie.Need-part-requires
+part-requires c κs = search needs
+
+shared-slice-read-result : tie.Need-shared-slice-read-result
+shared-slice-read-result c =
+    let a = c .before .before .before .before .args in
+    rw (c .before .part .ensures) (part-head (a .older .now) (a .newer .now) (a .at) (c .before .before .before .before .pre) .0)
+
+returns : tie.Need-returns
+returns c =
+    let a = c .before .before .before .before .args in
+    rw (c .before .part .ensures) (part-head (a .older .now) (a .newer .now) (a .at) (c .before .before .before .before .pre) .1)
+
+pub byte-at-spec : {M : Type 1} → statement M
+byte-at-spec = tie.close (tie.spec part-requires shared-slice-read-result returns)

@@ -1,0 +1,36 @@
+-- `newer_run` meets its contract. Assumes nothing.
+use mathlib.Core.Path.{_≡_}
+use Prim.Native.Nat.{_+_, _-_}
+use native.Mathlib.Omega.{arith}
+use borrow.Author.Needs.{needs}
+use lib.ListN.{length, length-take}
+use Rattle.queue.specs.Ring.{newerRun}
+use Rattle.queue.proofs.ring.newer_run.Statement.{statement}
+use Rattle.queue.proofs.ring.newer_run.Tie as tie
+
+sub-room : tie.Need-sub-room
+sub-room c = search needs
+
+slice-aggregate-result : tie.Need-slice-aggregate-result
+slice-aggregate-result c = search needs
+
+returns : tie.Need-returns
+unfolding newerRun
+returns c = let a = c .before .before .args in let e : a .head + a .used - length (a .ring .now) ≡ 0 = omega arith in rw e
+
+sub-more : tie.Need-sub-more
+sub-more c = search needs
+
+slice-aggregate-result-2 : tie.Need-slice-aggregate-result-2
+slice-aggregate-result-2 c = simp length-take (omega arith)
+
+returns-2 : tie.Need-returns-2
+unfolding newerRun
+returns-2 c =
+    let a = c .before .before .args in
+    let e : a .head + a .used - length (a .ring .now) ≡ a .used - (length (a .ring .now) - a .head) = omega arith in rw e
+
+pub newer-run-spec : {M : Type 1} → statement M
+newer-run-spec =
+    tie.close
+    (tie.spec sub-room slice-aggregate-result returns sub-more slice-aggregate-result-2 returns-2)

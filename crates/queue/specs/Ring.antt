@@ -1,0 +1,42 @@
+-- Document 01, "The queue's bytes", second paragraph: the ring's two runs, what it holds, and bytes stored behind.
+--
+--   position   0 ..          head ..                      length
+--              [newer run | free | older run              ]     the bytes used go round the end
+--              [ free           | older run | free        ]     they do not: the newer run is empty
+use mathlib.Core.Bool.{Bool, _&&_, cond}
+use mathlib.Core.List.{List, [], _∷_, _++_}
+use Prim.Native.Nat.{ℕ, _+_, _-_}
+use lib.Dec.{leb, ltb, eqb}
+use lib.ListN.{length, take, drop, set}
+
+-- the bytes at an offset of the two runs: a part of the older to its end, past it a part of the newer to its end, which past both is empty
+unfoldable pub partOf : List ℕ → List ℕ → ℕ → List ℕ
+partOf older newer at = cond (ltb at (length older)) (drop at older) (drop (at - length older) newer)
+
+-- the bytes from the head on, and those that go on at byte 0
+unfoldable pub olderRun : List ℕ → ℕ → ℕ → List ℕ
+olderRun ring head used = take used (drop head ring)
+
+unfoldable pub newerRun : List ℕ → ℕ → ℕ → List ℕ
+newerRun ring head used = take (head + used - length ring) ring
+
+-- the bytes that the ring holds, from the front of the queue to its back
+unfoldable pub content : List ℕ → ℕ → ℕ → List ℕ
+content ring head used = olderRun ring head used ++ newerRun ring head used
+
+-- a head below the length, and no more bytes used than there are: all of them may be
+abbrev pub fitsRing : ℕ → ℕ → ℕ → Bool
+fitsRing len head used = ltb head len && leb used len
+
+-- a position that may have gone round the end once
+abbrev pub wrapped : ℕ → ℕ → ℕ
+wrapped len at = cond (ltb at len) at (at - len)
+
+-- bytes stored one after the other from a position on, round the end: the others keep their values
+unfoldable pub stored : List ℕ → ℕ → List ℕ → List ℕ
+stored ring at [] = ring
+stored ring at (b ∷ bs) = stored (set ring at b) (cond (eqb (at + 1) (length ring)) 0 (at + 1)) bs
+
+-- bytes stored behind those that are used
+abbrev pub storedBehind : List ℕ → ℕ → ℕ → List ℕ → List ℕ
+storedBehind ring head used bs = stored ring (wrapped (length ring) (head + used)) bs

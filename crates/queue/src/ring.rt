@@ -1,0 +1,81 @@
+// The ring: a lent byte buffer, the position of its first used byte (head) and the number of bytes used.
+// What it holds lies in two runs: the older from the head on, the newer from byte 0 on.
+ghost use mathlib.Core.Path.{_≡_};
+ghost use mathlib.Core.List.{_++_};
+ghost use Prim.Native.Nat.{_+_, _^_, _≤_, _<_};
+ghost use lib.ListN.{length, getD, take};
+ghost use Rattle.queue.specs.Ring.{partOf, olderRun, newerRun, stored, wrapped};
+
+// The bytes at an offset of the two runs: a part of one of them, to that run's end.
+pub fn part<'a>(older: &'a [u8], newer: &'a [u8], at: usize) -> &'a [u8]
+    ensures { λ r. ⌜ now r ≡ partOf (now (older .entry)) (now (newer .entry)) at ⌝ }
+{
+    if at < older.len() {
+        return &older[at..];
+    }
+    let off = at - older.len();
+    if off < newer.len() {
+        return &newer[off..];
+    }
+    let end = newer.len();
+    &newer[end..]
+}
+
+// The byte at an offset of the two runs.
+pub(crate) fn byte_at<'a>(older: &'a [u8], newer: &'a [u8], at: usize) -> u8
+    requires { ⌜ at < length (now older) + length (now newer) ⌝ }
+    ensures { λ r. ⌜ r ≡ getD (now (older .entry) ++ now (newer .entry)) at 0 ⌝ }
+{
+    let p = part(older, newer, at);
+    p[0]
+}
+
+// The run from the head on.
+pub(crate) fn older_run(ring: &[u8], head: usize, used: usize) -> &[u8]
+    requires { ⌜ (head ≤ length (now ring)) × (used ≤ length (now ring)) ⌝ }
+    ensures { λ r. ⌜ now r ≡ olderRun (now (ring .entry)) head used ⌝ }
+{
+    let room = ring.len() - head;
+    if used <= room {
+        return &ring[head..head + used];
+    }
+    &ring[head..]
+}
+
+// The run that goes on at byte 0.
+pub(crate) fn newer_run(ring: &[u8], head: usize, used: usize) -> &[u8]
+    requires { ⌜ (head ≤ length (now ring)) × (used ≤ length (now ring)) ⌝ }
+    ensures { λ r. ⌜ now r ≡ newerRun (now (ring .entry)) head used ⌝ }
+{
+    let room = ring.len() - head;
+    if used <= room {
+        return &ring[..0];
+    }
+    let more = used - room;
+    &ring[..more]
+}
+
+// The position that lies a number of bytes after another, round the end.
+pub(crate) fn move_on(len: usize, from: usize, count: usize) -> usize
+    requires { ⌜ (from < len) × (count ≤ len) × (len < 2 ^ 63) ⌝ }
+    ensures { λ r. ⌜ r ≡ wrapped len (from + count) ⌝ }
+    ensures { λ r. ⌜ r < len ⌝ }
+{
+    let end = from + count;
+    if end < len { end } else { end - len }
+}
+
+// Stores the first `count` bytes of `source` from a position on, round the end.
+pub(crate) fn store(ring: &mut [u8], from: usize, source: &[u8], count: usize)
+    requires { ⌜ (from < length (now ring)) × (count ≤ length (now source)) ⌝ }
+    ensures { λ _. ⌜ now (ring .exit) ≡ stored (now (ring .entry)) from (take count (now (source .entry))) ⌝ }
+{
+    let mut p = from;
+    for i in 0..count {
+        ring[p] = source[i];
+        p += 1;
+        if p == ring.len() {
+            p = 0;
+        }
+    }
+}
