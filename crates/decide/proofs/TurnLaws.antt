@@ -1,0 +1,92 @@
+-- Laws of the search for a direction. Assumes nothing.
+use mathlib.Core.Path.{_≡_, refl, sym, ap, _∙_}
+use mathlib.Core.Bool.{Bool, true, false, _&&_}
+use mathlib.Core.List.{List}
+use Prim.Native.Nat.{ℕ, suc, _+_, _-_, _%_, _≤_, _<_}
+use native.Mathlib.Omega.{arith}
+use native.Mathlib.Nat.{mod-lt, add-zero}
+use lib.ListN.{length}
+use borrow.Author.Tests.{le-leb, lt-leb}
+use Rattle.refusal.specs.declared.Whether.{Whether}
+use Rattle.interval.specs.declared.Interval.{Interval}
+use Rattle.interval.specs.Answers.{whetherAt}
+use Rattle.interval.specs.Bounds.{legalInterval, putInterval}
+use Rattle.interval.specs.Cuts.{subdivisible}
+use Rattle.queue.specs.declared.Block.{Block}
+use Rattle.queue.specs.declared.directions.Direction.{Direction}
+use Rattle.queue.specs.declared.directions.DirectionAt.{DirectionAt}
+use Rattle.queue.specs.declared.directions.DirectionAt.the-variants as A
+use Rattle.queue.specs.Directions.{directions, directionAt}
+use Rattle.decide.specs.declared.Picture.{Picture}
+use Rattle.decide.specs.declared.turn.Found.{Found}
+use Rattle.decide.specs.declared.turn.Found.the-variants as F
+use Rattle.decide.specs.declared.turn.Turned.the-variants as T
+use Rattle.decide.specs.Damage.{directionOf}
+use Rattle.decide.specs.Turn.{openLimit, startOf, splitsAt, subdivisibleAlong, searchedFrom, searched, turnedTo, turnedBy, turned}
+use Rattle.decide.proofs.DamageLaws.{isYes}
+
+-- BY THE TESTS THAT THE CODE MAKES
+
+pub limit-as : (p : Picture) (b : Block) (a : DirectionAt) (d e : Direction) → a ≡ directionOf p b → a ≡ A.Along d → d ≡ e → openLimit (A.Along e) ≡ openLimit (directionOf p b)
+limit-as p b a d e f g h = ap openLimit (sym (g ∙ ap A.Along h) ∙ f)
+
+pub limit-none : (p : Picture) (b : Block) (a : DirectionAt) → a ≡ directionOf p b → a ≡ A.Beyond → 0 ≡ openLimit (directionOf p b)
+limit-none p b a f g = ap openLimit (sym g ∙ f)
+
+pub start-present : (p : Picture) (b : Block) (n l : ℕ) → l ≡ openLimit (directionOf p b) → n ≤ l → b .dir ≡ startOf p b n
+unfolding startOf
+start-present p b n l e h = rw (le-leb n (openLimit (directionOf p b)) (rw (← e) h))
+
+pub start-next : (p : Picture) (b : Block) (n l : ℕ) → l ≡ openLimit (directionOf p b) → l < n → b .dir + 1 ≡ startOf p b n
+unfolding startOf
+start-next p b n l e h = rw (lt-leb n (openLimit (directionOf p b)) (rw (← e) h))
+
+pub splits-as : (x : Interval) (integer : Bool) (w v : Whether) → w ≡ whetherAt (legalInterval x integer) (subdivisible (putInterval x) integer) → w ≡ v → isYes v ≡ splitsAt x integer
+unfolding splitsAt
+splits-as x integer w v e f = ap isYes (sym f ∙ e) ∙ go (legalInterval x integer) (subdivisible (putInterval x) integer)
+  where
+    go : (a b : Bool) → isYes (whetherAt a b) ≡ (a && b)
+    go true true = refl
+    go true false = refl
+    go false b = refl
+
+pub along-as : (p : Picture) (c : Block) (at : ℕ) (a v : DirectionAt) (r : Bool) → a ≡ directionAt (directions (p .set)) at → a ≡ v → r ≡ subdivisibleAlong c v
+    → r ≡ subdivisibleAlong c (directionAt (directions (p .set)) at)
+along-as p c at a v r e f g = g ∙ ap (subdivisibleAlong c) (sym f ∙ e)
+
+-- THE SEARCH
+
+module _ (ds : List Direction) (c : Block) (start n i : ℕ) (same : n ≡ length ds) where
+  pub search-below : i < n → (start + i) % n < n
+  search-below h = mod-lt (start + i) (omega arith)
+
+  -- the search from here on, one direction further
+  pub search-on : i < n → subdivisibleAlong c (directionAt ds ((start + i) % n)) ≡ false → searchedFrom ds c (n - (i + 1)) (start + (i + 1)) ≡ searchedFrom ds c (n - i) (start + i)
+  unfolding searchedFrom
+  search-on h e =
+      let f : n - i ≡ suc (n - (i + 1)) = omega arith in
+      let g : start + (i + 1) ≡ start + i + 1 = omega arith in
+      rw (f, g, ← same, e)
+
+  pub search-found : i < n → subdivisibleAlong c (directionAt ds ((start + i) % n)) ≡ true → F.At ((start + i) % n) ≡ searchedFrom ds c (n - i) (start + i)
+  unfolding searchedFrom
+  search-found h e =
+      let f : n - i ≡ suc (n - (i + 1)) = omega arith in
+      rw (f, ← same, e)
+
+  pub search-end : n ≤ i → F.Nothing ≡ searchedFrom ds c (n - i) (start + i)
+  unfolding searchedFrom
+  search-end h = let f : n - i ≡ 0 = omega arith in rw f
+
+pub search-start : (p : Picture) (c : Block) (start n : ℕ) → n ≡ length (directions (p .set)) → searchedFrom (directions (p .set)) c (n - 0) (start + 0) ≡ searched p c start
+search-start p c start n e = let f : n - 0 ≡ n = omega arith in rw (f, add-zero start, e)
+
+-- THE TURN
+
+pub turns-to : (p : Picture) (b : Block) (n s d : ℕ) (c : Block) (f : Found) → s ≡ startOf p b n → f ≡ searched p c s → f ≡ F.At d → T.To (turnedTo c d) ≡ turned p b n c
+unfolding turned
+turns-to p b n s d c f e g h = ap (turnedBy c) (sym h ∙ g ∙ ap (searched p c) e)
+
+pub turns-nowhere : (p : Picture) (b : Block) (n s : ℕ) (c : Block) (f : Found) → s ≡ startOf p b n → f ≡ searched p c s → f ≡ F.Nothing → T.Nowhere ≡ turned p b n c
+unfolding turned
+turns-nowhere p b n s c f e g h = ap (turnedBy c) (sym h ∙ g ∙ ap (searched p c) e)

@@ -1,0 +1,15 @@
+-- `decide::verdict::judge` meets its contract. Assumes nothing.
+use Rattle.decide.proofs.verdict.judge.Statement.{statement}
+use Rattle.decide.proofs.verdict.judge.Tie as tie
+
+returns : tie.Need-returns
+returns c = rw (c .if1 .taken)
+
+told-requires : tie.Need-told-requires
+told-requires c κs = tt
+
+returns-2 : tie.Need-returns-2
+returns-2 c = rw (c .before .if1 .left) (c .told .ensures)
+
+pub judge-spec : {M : Type 1} → statement M
+judge-spec = tie.close (tie.spec returns told-requires returns-2)

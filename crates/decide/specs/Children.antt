@@ -1,0 +1,77 @@
+-- Document 01: "A step takes the front block and lists its children, at most four, in order".
+use mathlib.Core.Bool.{Bool, cond, _&&_, _||_}
+use mathlib.Core.List.{List, [], _∷_, _++_, map}
+use Prim.Native.Nat.{_+_, _-_}
+use lib.Dec.{leb, ltb}
+use lib.ListN.{length, replicate, set}
+use Rattle.coordinate.specs.declared.Coordinate.{Coordinate}
+use Rattle.coordinate.specs.Axis.{inside}
+use Rattle.coordinate.specs.Lone.{lowHalf, highHalf}
+use Rattle.interval.specs.Bounds.{putInterval}
+use Rattle.interval.specs.Cuts.{laterCut}
+use Rattle.queue.specs.declared.Block.{Block}
+use Rattle.queue.specs.declared.directions.Direction.{Direction}
+use Rattle.queue.specs.declared.directions.Direction.the-variants as D
+use Rattle.queue.specs.declared.directions.DirectionAt.{DirectionAt}
+use Rattle.queue.specs.declared.directions.DirectionAt.the-variants as A
+use Rattle.queue.specs.Block.{isInteger, parameterOf, withParameter}
+use Rattle.decide.specs.declared.Picture.{Picture}
+use Rattle.decide.specs.declared.children.Children.{Children}
+use Rattle.decide.specs.Damage.{sound, directionOf}
+
+-- the block at other coordinates
+abbrev pub movedTo : Block → Coordinate → Coordinate → Block
+movedTo b x y = record { x = x; y = y; m = b .m; n = b .n; theta = b .theta; t = b .t; dir = b .dir }
+
+-- "along xy (0,0), (1,0), (0,1), (1,1)"
+unfoldable pub quartersOf : Block → List Block
+quartersOf b =
+    movedTo b (lowHalf (b .x)) (lowHalf (b .y)) ∷ movedTo b (highHalf (b .x)) (lowHalf (b .y))
+    ∷ movedTo b (lowHalf (b .x)) (highHalf (b .y)) ∷ movedTo b (highHalf (b .x)) (highHalf (b .y)) ∷ []
+
+-- a block begins inside the picture
+abbrev pub beginsInside : Picture → Block → Bool
+beginsInside p b = inside (p .width) (b .x .rank) (b .x .index) && inside (p .height) (b .y .rank) (b .y .index)
+
+-- those that begin inside
+unfoldable pub keptInside : Picture → List Block → List Block
+keptInside p [] = []
+keptInside p (b ∷ l) = cond (beginsInside p b) (b ∷ keptInside p l) (keptInside p l)
+
+-- "above level 0 without those outside the picture"
+unfoldable pub childrenXY : Picture → Block → List Block
+childrenXY p b = cond (ltb 48 (b .x .rank)) (keptInside p (quartersOf b)) (quartersOf b)
+
+-- "along a parameter the later cut"
+unfoldable pub childrenCut : Block → Direction → List Block
+childrenCut b d = map (withParameter b d) (laterCut (putInterval (parameterOf b d)) (isInteger d))
+
+-- "with no direction the block itself"
+abbrev pub childrenAlong : Picture → Block → DirectionAt → List Block
+childrenAlong p b (A.Along D.XY) = childrenXY p b
+childrenAlong p b (A.Along D.M) = childrenCut b D.M
+childrenAlong p b (A.Along D.N) = childrenCut b D.N
+childrenAlong p b (A.Along D.Theta) = childrenCut b D.Theta
+childrenAlong p b (A.Along D.T) = childrenCut b D.T
+childrenAlong p b A.Beyond = b ∷ []
+
+-- the children; a damaged block has none
+unfoldable pub childrenOf : Picture → Block → List Block
+childrenOf p b = cond (sound p b) (childrenAlong p b (directionOf p b)) []
+
+-- a list of up to four as an array with a count: the places behind it hold the block itself
+abbrev pub listed : Block → List Block → Children
+listed b l = record { at = l ++ replicate (4 - length l) b; count = length l }
+
+-- THE SAME, CHILD BY CHILD
+
+-- a child more in the array, where there is room
+unfoldable pub withChild : Children → Block → Children
+withChild k c = cond (ltb (k .count) 4) (record { at = set (k .at) (k .count) c; count = k .count + 1 }) k
+
+-- is the quarter of b at these halves listed?
+abbrev pub isKept : Picture → Block → Coordinate → Coordinate → Bool
+isKept p b x y = leb (b .x .rank) 48 || (inside (p .width) (x .rank) (x .index) && inside (p .height) (y .rank) (y .index))
+
+unfoldable pub withQuarter : Picture → Children → Block → Coordinate → Coordinate → Children
+withQuarter p k b x y = cond (isKept p b x y) (withChild k (movedTo b x y)) k

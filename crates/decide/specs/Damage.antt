@@ -1,0 +1,81 @@
+-- Document 01, "Numbers of refusal": which pictures are legal, and which blocks are damaged. What is said there of a block's bytes is `queue`'s,
+-- and "a covered cell over 2^32 + 1" stands at the end of this page.
+use mathlib.Core.Bool.{Bool, true, false, _&&_}
+use mathlib.Core.List.{List}
+use Prim.Native.Nat.{ℕ}
+use lib.Dec.{leb, eqb}
+use lib.ListN.{length}
+use Rattle.coordinate.specs.declared.Coordinate.{Coordinate}
+use Rattle.coordinate.specs.Axis.{ordinaryFloor, aboveFloor, inside}
+use Rattle.coordinate.specs.Lone.{legal}
+use Rattle.interval.specs.Bounds.{legalInterval}
+use Rattle.image.specs.Cell.{Cell, isDamaged}
+use Rattle.image.specs.Range.{rectangleOf}
+use Rattle.image.specs.Painting.{heldCells, someOf, someSeen}
+use Rattle.image.specs.declared.Kind.the-variants as K
+use Rattle.image.specs.declared.Seen.{Seen}
+use Rattle.queue.specs.declared.Block.{Block}
+use Rattle.queue.specs.declared.directions.Direction.{Direction}
+use Rattle.queue.specs.declared.directions.Direction.the-variants as D
+use Rattle.queue.specs.declared.directions.DirectionAt.{DirectionAt}
+use Rattle.queue.specs.declared.directions.DirectionAt.the-variants as A
+use Rattle.queue.specs.Directions.{directions, directionAt}
+use Rattle.decide.specs.declared.Picture.{Picture}
+
+-- "a side is 0 or over 32768", the other way round
+abbrev pub legalSide : ℕ → Bool
+legalSide side = leb 1 side && leb side 32768
+
+-- "variable set over 63", the other way round
+abbrev pub legalSet : ℕ → Bool
+legalSet set = leb set 63
+
+unfoldable pub legalPicture : Picture → Bool
+legalPicture p = legalSide (p .width) && legalSide (p .height) && legalSet (p .set)
+
+-- the direction that a block's byte names
+abbrev pub directionOf : Picture → Block → DirectionAt
+directionOf p b = directionAt (directions (p .set)) (b .dir)
+
+-- in the ranges, and not "a pixel outside"
+abbrev pub placeRight : ℕ → Coordinate → Bool
+placeRight side c = legal ordinaryFloor c && inside side (c .rank) (c .index)
+
+-- not "xy at level -32"
+abbrev pub cuttable : Block → Direction → Bool
+cuttable b D.XY = aboveFloor ordinaryFloor (b .x .rank)
+cuttable b D.M = true
+cuttable b D.N = true
+cuttable b D.Theta = true
+cuttable b D.T = true
+
+-- not "an unused direction (0 is right where there are none)"
+abbrev pub directionRight : Picture → Block → DirectionAt → Bool
+directionRight p b (A.Along d) = cuttable b d
+directionRight p b A.Beyond = eqb (length (directions (p .set))) 0 && eqb (b .dir) 0
+
+-- not "a parameter illegal"
+abbrev pub parametersRight : Block → Bool
+parametersRight b = legalInterval (b .m) true && legalInterval (b .n) true && legalInterval (b .theta) true && legalInterval (b .t) false
+
+-- not damaged: the levels agree, and none of the above
+unfoldable pub undamaged : Picture → Block → Bool
+undamaged p b =
+    eqb (b .x .rank) (b .y .rank) && placeRight (p .width) (b .x) && placeRight (p .height) (b .y)
+    && directionRight p b (directionOf p b) && parametersRight b
+
+-- a legal picture and an undamaged block of it
+abbrev pub sound : Picture → Block → Bool
+sound p b = legalPicture p && undamaged p b
+
+-- the cells that a block covers
+abbrev pub coveredCells : Picture → Block → List Cell → List Cell
+coveredCells p b l = heldCells (p .width) (rectangleOf (b .x) (b .y) (p .width) (p .height)) l
+
+-- "a covered cell over 2^32 + 1"
+unfoldable pub cellDamaged : Picture → Block → List Cell → Bool
+cellDamaged p b l = someOf isDamaged (coveredCells p b l)
+
+-- the same of lent cells; where they are fewer than the pixels nothing is seen
+abbrev pub damageSeen : Picture → Block → List ℕ → Seen
+damageSeen p b cells = someSeen (p .width) (p .height) (rectangleOf (b .x) (b .y) (p .width) (p .height)) K.Damaged cells

@@ -1,0 +1,7 @@
+-- The definitions that the contracts cite, in the document's order.
+pub mod Damage
+pub mod Children
+pub mod Verdict
+pub mod Turn
+pub mod Plan
+pub mod AtOnce

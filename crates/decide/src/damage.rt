@@ -1,0 +1,91 @@
+// Which pictures are legal, and which blocks are damaged.
+ghost use mathlib.Core.Path.{_≡_};
+ghost use Rattle.decide.specs.Damage.{legalSide, legalPicture, placeRight, directionOf, directionRight, cuttable, parametersRight, undamaged, damageSeen};
+use super::Picture;
+use coordinate::Coordinate;
+use image::Kind;
+use image::Seen;
+use queue::Block;
+use queue::directions::Direction;
+use queue::directions::DirectionAt;
+use queue::directions::direction_at;
+use queue::directions::direction_count;
+use refusal::Whether;
+
+// Whether the sides and the variable set are ones that a setup takes.
+pub fn is_legal_picture(p: Picture) -> bool
+    ensures { λ r. ⌜ r ≡ legalPicture p ⌝ }
+{
+    is_legal_side(p.width) & is_legal_side(p.height) & (p.set <= 63)
+}
+
+fn is_legal_side(side: u32) -> bool
+    ensures { λ r. ⌜ r ≡ legalSide side ⌝ }
+{
+    (1 <= side) & (side <= 32768)
+}
+
+// Whether a block taken from a queue is one that a step can go on with.
+pub fn is_undamaged(p: Picture, b: Block) -> bool
+    ensures { λ r. ⌜ r ≡ undamaged p b ⌝ }
+{
+    let x = b.x;
+    let y = b.y;
+    (x.rank == y.rank)
+        & is_placed(x, p.width)
+        & is_placed(y, p.height)
+        & is_directed(p, b)
+        & has_legal_parameters(b)
+}
+
+// Whether a coordinate is in the ranges and begins inside its side.
+pub(crate) fn is_placed(c: Coordinate, side: u32) -> bool
+    ensures { λ r. ⌜ r ≡ placeRight side c ⌝ }
+{
+    match coordinate::is_inside(c, side) {
+        Whether::Yes => true,
+        Whether::No => false,
+        Whether::Refused(_) => false,
+    }
+}
+
+// Whether the direction byte names a direction in use that the block can be cut along, or is 0 where there are none.
+fn is_directed(p: Picture, b: Block) -> bool
+    ensures { λ r. ⌜ r ≡ directionRight p b (directionOf p b) ⌝ }
+{
+    match direction_at(p.set, b.dir) {
+        DirectionAt::Along(d) => is_cuttable(b, d),
+        DirectionAt::Beyond => (direction_count(p.set) == 0) & (b.dir == 0),
+    }
+}
+
+pub(crate) fn is_cuttable(b: Block, d: Direction) -> bool
+    ensures { λ r. ⌜ r ≡ cuttable b d ⌝ }
+{
+    let x = b.x;
+    match d {
+        Direction::XY => 16 < x.rank,
+        Direction::M => true,
+        Direction::N => true,
+        Direction::Theta => true,
+        Direction::T => true,
+    }
+}
+
+fn has_legal_parameters(b: Block) -> bool
+    ensures { λ r. ⌜ r ≡ parametersRight b ⌝ }
+{
+    let m = interval::is_legal(b.m, true);
+    let n = interval::is_legal(b.n, true);
+    let theta = interval::is_legal(b.theta, true);
+    let t = interval::is_legal(b.t, false);
+    m & n & theta & t
+}
+
+// Whether a cell that the block covers is neither a number, nor True, nor given up.
+pub fn has_damaged_cell(p: Picture, b: Block, cells: &[u64]) -> Seen
+    ensures { λ r. ⌜ r ≡ damageSeen p b (now (cells .entry)) ⌝ }
+{
+    let r = image::rectangle(b.x, b.y, p.width, p.height);
+    image::is_one(cells, p.width, p.height, r, Kind::Damaged)
+}

@@ -1,0 +1,118 @@
+// Where an incomplete child goes on: the first direction, round the list of those in use, that it can be cut along.
+ghost use mathlib.Core.Path.{_≡_};
+ghost use Prim.Native.Nat.{_≤_};
+ghost use Rattle.queue.specs.Directions.{directions, directionAt};
+ghost use Rattle.decide.specs.Damage.{directionOf};
+ghost use Rattle.decide.specs.Turn.{openLimit, startOf, splitsAt, subdivisibleAlong, searched, turned};
+use super::Picture;
+use super::damage::is_cuttable;
+use interval::Interval;
+use queue::Block;
+use queue::directions::Direction;
+use queue::directions::DirectionAt;
+use queue::directions::direction_at;
+use queue::directions::direction_count;
+use refusal::Whether;
+
+// An incomplete child with its next direction.
+pub enum Turned {
+    To(Block),
+    // It cannot be cut along any direction.
+    Nowhere,
+}
+
+// The place of a direction in the list of those in use.
+pub enum Found {
+    At(u8),
+    Nothing,
+}
+
+// The child with its next direction, where so many children of the block are incomplete.
+pub fn turn(p: Picture, b: Block, incomplete: usize, c: Block) -> Turned
+    ensures { λ r. ⌜ r ≡ turned p b incomplete c ⌝ }
+{
+    match search(p, c, start_of(p, b, incomplete)) {
+        Found::At(at) => {
+            let mut t = c;
+            t.dir = at;
+            Turned::To(t)
+        }
+        Found::Nothing => Turned::Nowhere,
+    }
+}
+
+// Where the search begins: at the present direction while few children are incomplete, else at the next.
+fn start_of(p: Picture, b: Block, incomplete: usize) -> usize
+    ensures { λ r. ⌜ r ≡ startOf p b incomplete ⌝ }
+    ensures { λ r. ⌜ r ≤ 256 ⌝ }
+{
+    if incomplete <= open_limit(p, b) {
+        b.dir as usize
+    } else {
+        b.dir as usize + 1
+    }
+}
+
+// How many incomplete children are few.
+fn open_limit(p: Picture, b: Block) -> usize
+    ensures { λ r. ⌜ r ≡ openLimit (directionOf p b) ⌝ }
+{
+    match direction_at(p.set, b.dir) {
+        DirectionAt::Along(d) => match d {
+            Direction::XY => 1,
+            Direction::M => 2,
+            Direction::N => 2,
+            Direction::Theta => 2,
+            Direction::T => 2,
+        },
+        DirectionAt::Beyond => 0,
+    }
+}
+
+// The first direction, round the list from a place on, that the block can be cut along.
+fn search(p: Picture, c: Block, start: usize) -> Found
+    requires { ⌜ start ≤ 256 ⌝ }
+    ensures { λ r. ⌜ r ≡ searched p c start ⌝ }
+{
+    let n = direction_count(p.set) as usize;
+    for i in 0..n {
+        let at = ((start + i) % n) as u8;
+        if is_subdivisible(p, c, at) {
+            return Found::At(at);
+        }
+    }
+    Found::Nothing
+}
+
+// Whether the block can be cut along the direction at a place.
+fn is_subdivisible(p: Picture, c: Block, at: u8) -> bool
+    ensures { λ r. ⌜ r ≡ subdivisibleAlong c (directionAt (directions (p .set)) at) ⌝ }
+{
+    match direction_at(p.set, at) {
+        DirectionAt::Along(d) => is_subdivisible_along(c, d),
+        DirectionAt::Beyond => false,
+    }
+}
+
+fn is_subdivisible_along(c: Block, d: Direction) -> bool
+    ensures { λ r. ⌜ r ≡ subdivisibleAlong c (DirectionAt.Along d) ⌝ }
+{
+    match d {
+        Direction::XY => is_cuttable(c, d),
+        Direction::M => splits(c.m, true),
+        Direction::N => splits(c.n, true),
+        Direction::Theta => splits(c.theta, true),
+        Direction::T => splits(c.t, false),
+    }
+}
+
+// Whether a parameter is subdivisible.
+fn splits(x: Interval, integer: bool) -> bool
+    ensures { λ r. ⌜ r ≡ splitsAt x integer ⌝ }
+{
+    match interval::is_subdivisible(x, integer) {
+        Whether::Yes => true,
+        Whether::No => false,
+        Whether::Refused(_) => false,
+    }
+}
