@@ -1,0 +1,368 @@
+-- The run: what is left to do, with what was counted, is the run; its sums are bounded by the budget; its world is what its finished steps leave.
+-- Assumes nothing.
+use mathlib.Core.Path.{_≡_, refl, sym, ap, _∙_}
+use mathlib.Core.Bool.{Bool, true, false, not, cond}
+use mathlib.Core.List.{List}
+use Prim.Native.Nat.{ℕ, zero, suc, _+_, _-_, _*_, _≤_, _<_}
+use native.Mathlib.Omega.{arith}
+use lib.Dec.{leb}
+use lib.ListN.{length, take, drop, length-drop}
+use lib.Seq.{drop-drop}
+use borrow.Author.Tests.{leb-true, leb-false, le-leb, lt-leb}
+use Rattle.base.proofs.Test.{cases, cond-yes, cond-no}
+use Rattle.refusal.specs.declared.Refusal.{Refusal}
+use Rattle.refusal.specs.declared.Refusal.the-variants as R
+use Rattle.image.specs.declared.Seen.{Seen}
+use Rattle.image.specs.declared.Seen.the-variants as S
+use Rattle.image.specs.declared.Kind.the-variants as K
+use Rattle.image.specs.declared.PixelRange.{PixelRange}
+use Rattle.image.specs.Cell.{meanings, isGivenUp, ofKind}
+use Rattle.image.specs.Range.{wholePicture, inPicture, pictureReady}
+use Rattle.image.specs.Painting.{someOf, heldCells, seenIf, someSeen}
+use Rattle.queue.proofs.QueueAnswers.{denied, granted}
+use Rattle.queue.proofs.RingLaws.{rest-all}
+use Rattle.decide.specs.declared.Picture.{Picture}
+use Rattle.implicit.specs.declared.state.State.{State}
+use Rattle.implicit.specs.declared.state.Stepped.{Stepped}
+use Rattle.implicit.specs.declared.state.Stepped.the-variants as St
+use Rattle.implicit.specs.declared.state.Ending.{Ending}
+use Rattle.implicit.specs.declared.state.Ending.the-variants as E
+use Rattle.implicit.specs.declared.state.Ran.{Ran}
+use Rattle.implicit.specs.declared.state.Ran.the-variants as A
+use Rattle.implicit.specs.declared.go.Progress.{Progress}
+use Rattle.implicit.specs.Record.{pixelCount, pixelCells, soundRecord, queueEmpty}
+use Rattle.implicit.specs.Step.{World, worldOf, StepEnd, refused, finished, tapeStepOf, stepAnswer, worldAfter, EndsAs}
+use Rattle.implicit.specs.Run.{RunEnd, endedAs, afterStep, emptyEnding, goneOn, runFrom, RunAnswer, notRun, hasRun, runOf, runAnswer, worldRun, RunsAs}
+use Rattle.implicit.specs.ByStep.{startProgress, halted, stepped, progressAfter, nextStep, turnedOnce, worldOnce, restOf, counted, wholeRun, Bounded, RunTo}
+use Rattle.implicit.proofs.StepLawsWent.{step-few, Stays, step-stays}
+
+-- A RUN'S SUMS
+
+pub record RunFew (budget : ℕ) (tape : List ℕ) (e : RunEnd) : Type 0 where
+  pub steps : e .steps ≤ budget
+  pub evaluations : e .evaluations ≤ 24 * e .steps
+  pub tape-used : e .tape ≤ length tape
+  pub tape-few : e .tape ≤ 4 * e .steps
+
+gone-few : (left : ℕ) (w : World) (tape : List ℕ) (s : StepEnd) → tapeStepOf w tape ≡ s → (rest : World → ℕ → RunEnd) → ((v : World) (n : ℕ) → RunFew left (drop n tape) (rest v n)) → RunFew (suc left) tape (goneOn w s rest)
+gone-few left w tape (refused why) e rest f = record { steps = omega arith; evaluations = omega arith; tape-used = omega arith; tape-few = omega arith }
+gone-few left w tape (finished next evals bytes) e rest f =
+    let few = step-few true w tape next evals bytes e in
+    let r = f next bytes in
+    record {
+      steps = omega (arith, r .steps);
+      evaluations = omega (arith, r .evaluations, few .2);
+      tape-used = omega (arith, r .tape-used, few .1, length-drop bytes tape);
+      tape-few = omega (arith, r .tape-few, few .0);
+    }
+
+-- steps at most the budget, four tape bytes a step at most and no more than there are, 24 evaluations a step at most
+pub run-few : (budget : ℕ) (w : World) (tape : List ℕ) → RunFew budget tape (runFrom budget w tape)
+unfolding runFrom
+run-few zero w tape =
+    cases (queueEmpty (w .state)) (λ e. rw e (record { steps = omega arith; evaluations = omega arith; tape-used = omega arith; tape-few = omega arith }))
+    (λ e. rw e (record { steps = omega arith; evaluations = omega arith; tape-used = omega arith; tape-few = omega arith }))
+run-few (suc left) w tape =
+    cases (queueEmpty (w .state)) (λ e. rw e (record { steps = omega arith; evaluations = omega arith; tape-used = omega arith; tape-few = omega arith }))
+    (λ e. rw e (gone-few left w tape (tapeStepOf w tape) refl (λ next bytes. runFrom left next (drop bytes tape)) (λ v n. run-few left v (drop n tape))))
+
+-- A RUN'S WORLD IS WHAT ITS FINISHED STEPS LEAVE
+
+-- so many finished steps lead from one world to another, with these evaluations and tape bytes in all
+pub data Finished : World → List ℕ → ℕ → ℕ → ℕ → World → Type 0 where
+  none : {w : World} {tape : List ℕ} → Finished w tape 0 0 0 w
+  then : {w next left : World} {tape : List ℕ} {evals bytes steps evals′ bytes′ : ℕ} → tapeStepOf w tape ≡ finished next evals bytes → Finished next (drop bytes tape) steps evals′ bytes′ left
+      → Finished w tape (suc steps) (evals + evals′) (bytes + bytes′) left
+
+gone-finished : (left : ℕ) (w : World) (tape : List ℕ) (s : StepEnd) → tapeStepOf w tape ≡ s
+    → (let e = goneOn w s (λ next bytes. runFrom left next (drop bytes tape)) in
+    ((v : World) (n : ℕ) → let r = runFrom left v (drop n tape) in Finished v (drop n tape) (r .steps) (r .evaluations) (r .tape) (r .world))
+    → Finished w tape (e .steps) (e .evaluations) (e .tape) (e .world))
+gone-finished left w tape (refused why) e f = none
+gone-finished left w tape (finished next evals bytes) e f = then e (f next bytes)
+
+pub run-finished : (budget : ℕ) (w : World) (tape : List ℕ) → let e = runFrom budget w tape in Finished w tape (e .steps) (e .evaluations) (e .tape) (e .world)
+unfolding runFrom
+run-finished zero w tape = cases (queueEmpty (w .state)) (λ e. rw e none) (λ e. rw e none)
+run-finished (suc left) w tape =
+    cases (queueEmpty (w .state)) (λ e. rw e none) (λ e. rw e (gone-finished left w tape (tapeStepOf w tape) refl (λ v n. run-finished left v (drop n tape))))
+
+-- ONE TURN OF THE LOOP
+
+-- where the queue is empty a run ends, whatever its budget
+run-empty : (budget : ℕ) (w : World) (tape : List ℕ) → queueEmpty (w .state) ≡ true → runFrom budget w tape ≡ endedAs w (emptyEnding (w .state .picture) (w .cells))
+unfolding runFrom
+run-empty zero w tape e = rw e
+run-empty (suc left) w tape e = rw e
+
+run-more : (w : World) (tape : List ℕ) → queueEmpty (w .state) ≡ false → runFrom 0 w tape ≡ endedAs w E.More
+unfolding runFrom
+run-more w tape e = rw e
+
+run-step : (left : ℕ) (w : World) (tape : List ℕ) → queueEmpty (w .state) ≡ false → runFrom (suc left) w tape ≡ goneOn w (tapeStepOf w tape) (λ next bytes. runFrom left next (drop bytes tape))
+unfolding runFrom
+run-step left w tape e = rw e
+
+-- what is counted with nothing more is what was counted
+counted-none : (p : Progress) (w : World) (e : Ending) → counted p (endedAs w e) ≡ record { world = w; steps = p .steps; evaluations = p .evaluations; tape = p .tape; ending = e }
+counted-none p w e =
+    let a : p .steps + 0 ≡ p .steps = omega arith in
+    let b : p .evaluations + 0 ≡ p .evaluations = omega arith in
+    let c : p .tape + 0 ≡ p .tape = omega arith in
+    rw (a, b, c)
+
+-- the whole run from here on, on a world
+abbrev wholeOn : ℕ → Progress → World → List ℕ → RunEnd
+wholeOn budget p w tape = counted p (cond (p .going) (runFrom (budget - p .steps) w (drop (p .tape) tape)) (endedAs w (p .ending)))
+
+-- a step finished, and the rest
+counted-more : (budget : ℕ) (p : Progress) (next : World) (evals bytes : ℕ) (tape : List ℕ) → p .steps < budget
+    → wholeOn budget (stepped p (next .state) evals bytes) next tape ≡ counted p (afterStep evals bytes (runFrom (budget - p .steps - 1) next (drop bytes (drop (p .tape) tape))))
+counted-more budget p next evals bytes tape h =
+    let k : budget - (p .steps + 1) ≡ budget - p .steps - 1 = omega arith in
+    let d : drop bytes (drop (p .tape) tape) ≡ drop (p .tape + bytes) tape = drop-drop bytes (p .tape) tape in
+    let r = runFrom (budget - p .steps - 1) next (drop (p .tape + bytes) tape) in
+    let a : p .steps + 1 + r .steps ≡ p .steps + suc (r .steps) = omega arith in
+    let b : p .evaluations + evals + r .evaluations ≡ p .evaluations + (evals + r .evaluations) = omega arith in
+    let c : p .tape + bytes + r .tape ≡ p .tape + (bytes + r .tape) = omega arith in
+    rw (d, k, a, b, c)
+
+module _ (budget : ℕ) (p : Progress) (ring cells tape : List ℕ) (going : p .going ≡ true) where
+  -- what is left to do on this world
+  abbrev rest : RunEnd
+  rest = runFrom (budget - p .steps) (worldOf (p .state) ring cells) (drop (p .tape) tape)
+
+  abbrev next : StepEnd
+  next = nextStep p ring cells tape
+
+  step-turn : queueEmpty (p .state) ≡ false → p .steps < budget → (s : StepEnd) → next ≡ s → wholeOn budget (progressAfter p s) (worldAfter (worldOf (p .state) ring cells) s) tape ≡ counted p rest
+  step-turn e h (refused why) f =
+      let k : budget - p .steps ≡ suc (budget - p .steps - 1) = omega arith in
+      rw (k, run-step (budget - p .steps - 1) (worldOf (p .state) ring cells) (drop (p .tape) tape) e, f)
+  step-turn e h (finished left evals bytes) f =
+      let k : budget - p .steps ≡ suc (budget - p .steps - 1) = omega arith in
+      counted-more budget p left evals bytes tape h
+      ∙ ap (counted p) (sym (ap (λ (n : ℕ). runFrom n (worldOf (p .state) ring cells) (drop (p .tape) tape)) k ∙ run-step (budget - p .steps - 1) (worldOf (p .state) ring cells) (drop (p .tape) tape) e
+      ∙ ap (λ (s : StepEnd). goneOn (worldOf (p .state) ring cells) s (λ v n. runFrom (budget - p .steps - 1) v (drop n (drop (p .tape) tape)))) f))
+
+  spent-turn : queueEmpty (p .state) ≡ false → budget ≤ p .steps → wholeOn budget (halted p E.More) (worldOf (p .state) ring cells) tape ≡ counted p rest
+  spent-turn e h =
+      let z : budget - p .steps ≡ 0 = omega arith in
+      rw (z, run-more (worldOf (p .state) ring cells) (drop (p .tape) tape) e)
+
+  empty-turn : queueEmpty (p .state) ≡ true → wholeOn budget (halted p (emptyEnding (p .state .picture) cells)) (worldOf (p .state) ring cells) tape ≡ counted p rest
+  empty-turn e = rw (run-empty (budget - p .steps) (worldOf (p .state) ring cells) (drop (p .tape) tape) e)
+
+  turn-rest : wholeOn budget (turnedOnce budget p ring cells tape) (worldOnce budget p ring cells tape) tape ≡ counted p rest
+  unfolding turnedOnce worldOnce
+  turn-rest =
+      cases (queueEmpty (p .state)) (λ e. rw e (empty-turn e))
+      (λ e. cases (leb budget (p .steps)) (λ k. rw (e, k) (spent-turn e (leb-true budget (p .steps) k))) (λ k. rw (e, k) (step-turn e (leb-false budget (p .steps) k) next refl)))
+
+  turn-on : wholeOn budget (turnedOnce budget p ring cells tape) (worldOnce budget p ring cells tape) tape ≡ wholeOn budget p (worldOf (p .state) ring cells) tape
+  turn-on = turn-rest ∙ sym (ap (counted p) (cond-yes (p .going) rest (endedAs (worldOf (p .state) ring cells) (p .ending)) going))
+
+  module _ (r : Progress) (ring′ cells′ : List ℕ) (is-r : r ≡ turnedOnce budget p ring cells tape) (is-world : worldOf (r .state) ring′ cells′ ≡ worldOnce budget p ring cells tape) where
+    -- what is left to do from here is what was to do
+    pub turn-whole : wholeRun budget r ring′ cells′ tape ≡ wholeRun budget p ring cells tape
+    unfolding wholeRun
+    turn-whole = rw (is-world, is-r) turn-on
+
+    -- the loop's measure falls
+    pub turn-less : p .steps ≤ budget → budget - r .steps + cond (r .going) 1 0 < budget - p .steps + cond (p .going) 1 0
+    unfolding turnedOnce
+    turn-less h =
+        let g : _≡_ {A = ℕ} (cond (p .going) 1 0) 1 = ap (λ (b : Bool). cond b 1 0) going in
+        let f : budget - turnedOnce budget p ring cells tape .steps + cond (turnedOnce budget p ring cells tape .going) 1 0 < budget - p .steps + 1 =
+        cases (queueEmpty (p .state)) (λ e. rw e (omega arith))
+        (λ e. cases (leb budget (p .steps)) (λ k. rw (e, k) (omega arith)) (λ k. rw (e, k) (after (leb-false budget (p .steps) k) (nextStep p ring cells tape)))) in
+        rw is-r (omega (arith, f, g))
+      where
+        after : p .steps < budget → (s : StepEnd) → budget - progressAfter p s .steps + cond (progressAfter p s .going) 1 0 < budget - p .steps + 1
+        after k (refused why) = omega arith
+        after k (finished next evals bytes) = omega arith
+
+    pub turn-bounded : Bounded budget tape p → Bounded budget tape r
+    unfolding turnedOnce
+    turn-bounded b =
+        rw is-r
+        (cases (queueEmpty (p .state)) (λ e. rw e (record { steps = b .steps; evaluations = b .evaluations; tape-used = b .tape-used; tape-few = b .tape-few }))
+        (λ e. cases (leb budget (p .steps)) (λ k. rw (e, k) (record { steps = b .steps; evaluations = b .evaluations; tape-used = b .tape-used; tape-few = b .tape-few }))
+        (λ k. rw (e, k) (after (leb-false budget (p .steps) k) (nextStep p ring cells tape) refl))))
+      where
+        after : p .steps < budget → (s : StepEnd) → nextStep p ring cells tape ≡ s → Bounded budget tape (progressAfter p s)
+        after k (refused why) f = record { steps = b .steps; evaluations = b .evaluations; tape-used = b .tape-used; tape-few = b .tape-few }
+        after k (finished next evals bytes) f =
+            let few = step-few true (worldOf (p .state) ring cells) (drop (p .tape) tape) next evals bytes f in
+            record {
+              steps = omega arith;
+              evaluations = omega (arith, b .evaluations, few .2);
+              tape-used = omega (arith, b .tape-used, few .1, length-drop (p .tape) tape);
+              tape-few = omega (arith, b .tape-few, few .0);
+            }
+
+    -- the picture and the buffers' lengths stay
+    pub turn-stays : Stays (worldOf (p .state) ring cells) (worldOf (r .state) ring′ cells′)
+    unfolding worldOnce
+    turn-stays =
+        rw is-world
+        (cases (queueEmpty (p .state)) (λ e. rw e same)
+        (λ e. cases (leb budget (p .steps)) (λ k. rw (e, k) same) (λ k. rw (e, k) (after (nextStep p ring cells tape) refl))))
+      where
+        same : Stays (worldOf (p .state) ring cells) (worldOf (p .state) ring cells)
+        same = record { picture = refl; ring = refl; cells = refl }
+
+        after : (s : StepEnd) → nextStep p ring cells tape ≡ s → Stays (worldOf (p .state) ring cells) (worldAfter (worldOf (p .state) ring cells) s)
+        after (refused why) f = record { picture = refl; ring = refl; cells = refl }
+        after (finished next evals bytes) f = step-stays true (worldOf (p .state) ring cells) (drop (p .tape) tape) next evals bytes f
+
+    pub turn-enough : leb (pixelCount (p .state .picture)) (length cells) ≡ true → leb (pixelCount (r .state .picture)) (length cells′) ≡ true
+    turn-enough h = let s = turn-stays in rw (s .picture, s .cells) h
+
+-- THE BEGINNING AND THE END OF THE LOOP
+
+pub run-start : (budget : ℕ) (s : State) (ring cells tape : List ℕ) → wholeRun budget (startProgress s) ring cells tape ≡ runFrom budget (worldOf s ring cells) tape
+unfolding wholeRun
+run-start budget s ring cells tape =
+    let r = runFrom budget (worldOf s ring cells) tape in
+    let z : budget - 0 ≡ budget = omega arith in
+    let a : 0 + r .steps ≡ r .steps = omega arith in
+    let b : 0 + r .evaluations ≡ r .evaluations = omega arith in
+    let c : 0 + r .tape ≡ r .tape = omega arith in
+    rw (z, a, b, c)
+
+pub start-bounded : (budget : ℕ) (s : State) (tape : List ℕ) → Bounded budget tape (startProgress s)
+start-bounded budget s tape = record { steps = omega arith; evaluations = omega arith; tape-used = omega arith; tape-few = omega arith }
+
+pub run-end : (budget : ℕ) (p : Progress) (ring cells tape : List ℕ) (e : RunEnd) → p .going ≡ false → wholeRun budget p ring cells tape ≡ e → RunTo e p ring cells
+unfolding wholeRun
+run-end budget p ring cells tape e f h =
+    let a : p .steps + 0 ≡ p .steps = omega arith in
+    let b : p .evaluations + 0 ≡ p .evaluations = omega arith in
+    let c : p .tape + 0 ≡ p .tape = omega arith in
+    let k : counted p (endedAs (worldOf (p .state) ring cells) (p .ending)) ≡ e = rw f at h in
+    record {
+      world = ap (λ (x : RunEnd). x .world) k;
+      steps = sym a ∙ ap (λ (x : RunEnd). x .steps) k;
+      evaluations = sym b ∙ ap (λ (x : RunEnd). x .evaluations) k;
+      tape = sym c ∙ ap (λ (x : RunEnd). x .tape) k;
+      ending = ap (λ (x : RunEnd). x .ending) k;
+    }
+
+-- BY THE TESTS THAT THE CODE MAKES
+
+module _ (budget : ℕ) (p : Progress) (ring cells tape : List ℕ) (t : Bool) (is-t : t ≡ queueEmpty (p .state)) where
+  pub once-empty : (r : Progress) (e : Ending) → t ≡ true → e ≡ emptyEnding (p .state .picture) cells → r ≡ halted p e
+      → (r ≡ turnedOnce budget p ring cells tape) × (worldOf (r .state) ring cells ≡ worldOnce budget p ring cells tape)
+  unfolding turnedOnce worldOnce
+  once-empty r e h f g = let u : queueEmpty (p .state) ≡ true = sym is-t ∙ h in (rw (u, g, f), rw (u, g))
+
+  pub once-spent : (r : Progress) → t ≡ false → budget ≤ p .steps → r ≡ halted p E.More
+      → (r ≡ turnedOnce budget p ring cells tape) × (worldOf (r .state) ring cells ≡ worldOnce budget p ring cells tape)
+  unfolding turnedOnce worldOnce
+  once-spent r h k g = let u : queueEmpty (p .state) ≡ false = sym is-t ∙ h in (rw (u, le-leb budget (p .steps) k, g), rw (u, le-leb budget (p .steps) k, g))
+
+  pub once-step : (r : Progress) (ring′ cells′ : List ℕ) → t ≡ false → p .steps < budget → r ≡ progressAfter p (nextStep p ring cells tape)
+      → worldOf (r .state) ring′ cells′ ≡ worldAfter (worldOf (p .state) ring cells) (nextStep p ring cells tape)
+      → (r ≡ turnedOnce budget p ring cells tape) × (worldOf (r .state) ring′ cells′ ≡ worldOnce budget p ring cells tape)
+  unfolding turnedOnce worldOnce
+  once-step r ring′ cells′ h k g f = let u : queueEmpty (p .state) ≡ false = sym is-t ∙ h in (rw (u, lt-leb budget (p .steps) k) g, rw (u, lt-leb budget (p .steps) k) f)
+
+-- a step's answer, and how far the run then is
+ends-in : (p : Progress) (w : World) (s : StepEnd) (a : Stepped) (ring′ cells′ : List ℕ) → EndsAs w s a ring′ cells′ → (why : Refusal) (t : State) → a ≡ St.Refused why t → (s ≡ refused why) × (w .state ≡ t)
+ends-in p w (refused why′) a ring′ cells′ e why t f = let k : St.Refused why′ (w .state) ≡ St.Refused why t = sym (e .0) ∙ f in let j : why′ ≡ why = cc in (ap refused j, cc)
+ends-in p w (finished next evals bytes) a ring′ cells′ e why t f = let k : St.Finished (next .state) evals bytes ≡ St.Refused why t = sym (e .0) ∙ f in let z : _≡_ {A = ℕ} 0 1 = cc in absurd (omega arith)
+
+-- the part of the tape from here on is its rest
+pub step-rest : (p : Progress) (ring cells tape : List ℕ) (a : Stepped) (ring′ cells′ : List ℕ)
+    → EndsAs (worldOf (p .state) ring cells) (tapeStepOf (worldOf (p .state) ring cells) (take (length tape - p .tape) (drop (p .tape) tape))) a ring′ cells′
+    → EndsAs (worldOf (p .state) ring cells) (nextStep p ring cells tape) a ring′ cells′
+step-rest p ring cells tape a ring′ cells′ h = rw (rest-all tape (p .tape)) at h
+
+module _ (p : Progress) (ring cells tape : List ℕ) (a : Stepped) (ring′ cells′ : List ℕ) (ends : EndsAs (worldOf (p .state) ring cells) (nextStep p ring cells tape) a ring′ cells′) where
+  pub step-stop : (why : Refusal) (t : State) (r : Progress) → a ≡ St.Refused why t → r ≡ halted p (E.Stop why)
+      → (r ≡ progressAfter p (nextStep p ring cells tape)) × (worldOf (r .state) ring′ cells′ ≡ worldAfter (worldOf (p .state) ring cells) (nextStep p ring cells tape))
+  step-stop why t r f g =
+      let s = ends-in p (worldOf (p .state) ring cells) (nextStep p ring cells tape) a ring′ cells′ ends why t f .0 in
+      (g ∙ sym (ap (progressAfter p) s), rw (g, ends .1, ends .2, s))
+
+  pub step-on : (t : State) (evals bytes : ℕ) (r : Progress) → a ≡ St.Finished t evals bytes → r ≡ stepped p t evals bytes
+      → (r ≡ progressAfter p (nextStep p ring cells tape)) × (worldOf (r .state) ring′ cells′ ≡ worldAfter (worldOf (p .state) ring cells) (nextStep p ring cells tape))
+  step-on t evals bytes r f g = go (nextStep p ring cells tape) ends
+    where
+      go : (s : StepEnd) → EndsAs (worldOf (p .state) ring cells) s a ring′ cells′ → (r ≡ progressAfter p s) × (worldOf (r .state) ring′ cells′ ≡ worldAfter (worldOf (p .state) ring cells) s)
+      go (refused why) e = let k : St.Refused why (p .state) ≡ St.Finished t evals bytes = sym (e .0) ∙ f in let z : _≡_ {A = ℕ} 0 1 = cc in absurd (omega arith)
+      go (finished next evals′ bytes′) e =
+          let k : St.Finished (next .state) evals′ bytes′ ≡ St.Finished t evals bytes = sym (e .0) ∙ f in
+          let x : next .state ≡ t = cc in
+          let y : evals′ ≡ evals = cc in
+          let z : bytes′ ≡ bytes = cc in
+          (rw (g, x, y, z), rw (g, ← x, e .1, e .2))
+
+  -- what it took is small
+  pub step-sums : (t : State) (evals bytes : ℕ) → a ≡ St.Finished t evals bytes → (bytes ≤ length (drop (p .tape) tape)) × (evals ≤ 24)
+  step-sums t evals bytes f = go (nextStep p ring cells tape) refl ends
+    where
+      go : (s : StepEnd) → nextStep p ring cells tape ≡ s → EndsAs (worldOf (p .state) ring cells) s a ring′ cells′ → (bytes ≤ length (drop (p .tape) tape)) × (evals ≤ 24)
+      go (refused why) h e = let k : St.Refused why (p .state) ≡ St.Finished t evals bytes = sym (e .0) ∙ f in let z : _≡_ {A = ℕ} 0 1 = cc in absurd (omega arith)
+      go (finished next evals′ bytes′) h e =
+          let k : St.Finished (next .state) evals′ bytes′ ≡ St.Finished t evals bytes = sym (e .0) ∙ f in
+          let y : evals′ ≡ evals = cc in
+          let z : bytes′ ≡ bytes = cc in
+          let few = step-few true (worldOf (p .state) ring cells) (drop (p .tape) tape) next evals′ bytes′ h in
+          (omega (arith, few .1), omega (arith, few .2))
+
+-- the ending of an empty queue, by what is seen of given-up cells
+seen-abandoned : (p : Picture) (cells : List ℕ) → leb (pixelCount p) (length cells) ≡ true
+    → someSeen (p .width) (p .height) (wholePicture (p .width) (p .height)) K.Abandoned cells ≡ seenIf (someOf isGivenUp (pixelCells p cells))
+unfolding someSeen ofKind pictureReady inPicture
+seen-abandoned p cells h =
+    let a = le-leb 0 (p .width) (omega arith) in
+    let b = le-leb (p .width) (p .width) (omega arith) in
+    let c = le-leb 0 (p .height) (omega arith) in
+    let d = le-leb (p .height) (p .height) (omega arith) in
+    rw (a, b, c, d, h)
+
+abbrev endingSeen : Seen → Ending
+endingSeen S.Yes = E.Limit
+endingSeen S.No = E.Done
+endingSeen S.Outside = E.Done
+
+seen-ending : (t : Bool) → endingSeen (seenIf t) ≡ cond t E.Limit E.Done
+seen-ending true = refl
+seen-ending false = refl
+
+pub ending-as : (p : Picture) (cells : List ℕ) (x : PixelRange) (a v : Seen) → leb (pixelCount p) (length cells) ≡ true → x ≡ wholePicture (p .width) (p .height)
+    → a ≡ someSeen (p .width) (p .height) x K.Abandoned cells → a ≡ v → endingSeen v ≡ emptyEnding p cells
+ending-as p cells x a v h e f g =
+    ap endingSeen (sym g ∙ f ∙ ap (λ (r : PixelRange). someSeen (p .width) (p .height) r K.Abandoned cells) e ∙ seen-abandoned p cells h)
+    ∙ seen-ending (someOf isGivenUp (pixelCells p cells))
+
+-- the run itself
+module _ (budget : ℕ) (s : State) (ring cells tape : List ℕ) (t : Bool) (is-t : t ≡ soundRecord (length ring) s) where
+  pub run-damaged : not t ≡ true → RunsAs (worldOf s ring cells) (runOf budget (worldOf s ring cells) tape) (A.Refused R.Damaged s) ring cells
+  unfolding runOf
+  run-damaged h = let u : soundRecord (length ring) s ≡ false = sym is-t ∙ denied t h in rw u (refl, refl, refl)
+
+  module _ (h : not t ≡ false) (n : ℕ) (is-n : n ≡ pixelCount (s .picture)) where
+    pub run-short : length cells < n → RunsAs (worldOf s ring cells) (runOf budget (worldOf s ring cells) tape) (A.Refused R.Cells s) ring cells
+    unfolding runOf
+    run-short k =
+        let u : soundRecord (length ring) s ≡ true = sym is-t ∙ granted t h in
+        let l : length cells < pixelCount (s .picture) = rw is-n at k in
+        rw (u, lt-leb (pixelCount (s .picture)) (length cells) l) (refl, refl, refl)
+
+    pub run-enough : n ≤ length cells → leb (pixelCount (s .picture)) (length cells) ≡ true
+    run-enough k = le-leb (pixelCount (s .picture)) (length cells) (rw is-n at k)
+
+    pub run-done : n ≤ length cells → (p : Progress) (r : Ran) (ring′ cells′ : List ℕ) → RunTo (runFrom budget (worldOf s ring cells) tape) p ring′ cells′
+        → r ≡ A.Ended (p .state) (p .steps) (p .evaluations) (p .tape) (p .ending)
+        → RunsAs (worldOf s ring cells) (runOf budget (worldOf s ring cells) tape) r ring′ cells′
+    unfolding runOf
+    run-done k p r ring′ cells′ to e =
+        let u : soundRecord (length ring) s ≡ true = sym is-t ∙ granted t h in
+        rw (u, run-enough k) (
+          e ∙ rw (ap (λ (x : World). x .state) (to .world), to .steps, to .evaluations, to .tape, to .ending),
+          ap (λ (x : World). x .ring) (to .world),
+          ap (λ (x : World). x .cells) (to .world),
+        )

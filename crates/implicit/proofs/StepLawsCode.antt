@@ -1,0 +1,242 @@
+-- What the code answers is what the definitions say, by the tests that it makes. Assumes nothing.
+use mathlib.Core.Path.{_≡_, refl, sym, ap, _∙_}
+use mathlib.Core.Bool.{Bool, true, false, not, cond, _&&_}
+use mathlib.Core.List.{List, [], _∷_}
+use Prim.Native.Nat.{ℕ, suc, _+_, _-_, _^_, _≤_, _<_}
+use native.Mathlib.Omega.{arith}
+use native.Mathlib.Numerals.{add-one}
+use lib.Dec.{leb, ltb, eqb}
+use lib.ListN.{length, getD, drop, drop-of-length-le}
+use lib.Seq.{drop-cons}
+use borrow.Author.Tests.{le-leb, lt-leb, lt-ltb, le-ltb}
+use Rattle.base.proofs.Test.{cases, cond-yes, cond-no}
+use Rattle.refusal.specs.declared.Refusal.the-variants as R
+use Rattle.image.specs.declared.Op.the-variants as O
+use Rattle.image.specs.declared.Seen.{Seen}
+use Rattle.image.specs.declared.Seen.the-variants as S
+use Rattle.image.specs.Cell.{meanings, ofKind}
+use Rattle.image.specs.Range.{rectangleOf}
+use Rattle.image.specs.Painting.{seenIf, someSeen}
+use Rattle.image.proofs.BlockLaws.{rectangle-ready}
+use Rattle.queue.specs.declared.Block.{Block}
+use Rattle.queue.specs.declared.Last.{Last}
+use Rattle.queue.specs.declared.Taken.{Taken}
+use Rattle.queue.specs.declared.Measured.{Measured}
+use Rattle.queue.specs.declared.Measured.the-variants as M
+use Rattle.queue.specs.declared.Appended.{Appended}
+use Rattle.queue.specs.declared.Appended.the-variants as A
+use Rattle.queue.specs.Code.{encode, canQueue, indicesKnown}
+use Rattle.queue.specs.Queue.{codable, measured, appended, appendedRing}
+use Rattle.queue.proofs.QueueAnswers.{denied, granted, codable-both}
+use Rattle.queue.proofs.QueueableLaws.{encode-few}
+use Rattle.queue.specs.Block.{settled}
+use Rattle.decide.specs.declared.Picture.{Picture}
+use Rattle.decide.specs.declared.children.Children.{Children}
+use Rattle.decide.specs.declared.plan.Plan.{Plan}
+use Rattle.decide.specs.declared.plan.Planned.{Planned}
+use Rattle.decide.specs.Damage.{undamaged, cellDamaged, damageSeen}
+use Rattle.decide.specs.Children.{childrenOf, listed}
+use Rattle.implicit.specs.declared.state.State.{State}
+use Rattle.implicit.specs.declared.state.Drawn.the-variants as D
+use Rattle.implicit.specs.declared.state.Listed.{Listed}
+use Rattle.implicit.specs.declared.advance.Check.{Check}
+use Rattle.implicit.specs.declared.advance.Check.the-variants as C
+use Rattle.implicit.specs.declared.advance.Front.{Front}
+use Rattle.implicit.specs.declared.advance.Opened.{Opened}
+use Rattle.implicit.specs.declared.advance.Opened.the-variants as P
+use Rattle.implicit.specs.declared.advance.Size.{Size}
+use Rattle.implicit.specs.Record.{pixelCount, soundRecord, putLast}
+use Rattle.implicit.specs.Listing.{frontOf, unlisted, listedBlock, listedFrom, childrenListed}
+use Rattle.implicit.specs.Step.{World, worldOf, blockFine, enoughVerdicts}
+use Rattle.implicit.specs.ByChild.{openedAs, opening, blockCheck, withCode, sizedBy, sizedAll, sizeOf, planCheck, paintedBlock, markedBy, markedAll, numbered, queuedAs, withQueued, carriedBy, carriedAll, takenState, committed}
+
+-- THE LISTING
+
+pub listed-yes : (p : Picture) (b : Block) (k : Children) (t : Bool) → t ≡ undamaged p b → t ≡ true → k ≡ listed b (childrenOf p b)
+    → record { answer = D.Done; children = k } ≡ listedBlock p b
+unfolding listedBlock
+listed-yes p b k t e f g = let u : undamaged p b ≡ true = sym e ∙ f in rw (u, g)
+
+pub listed-no : (p : Picture) (b : Block) (r : Listed) (t : Bool) → t ≡ undamaged p b → t ≡ false → r ≡ unlisted R.Damaged → r ≡ listedBlock p b
+unfolding listedBlock
+listed-no p b r t e f g = let u : undamaged p b ≡ false = sym e ∙ f in rw (u, g)
+
+module _ (s : State) (ring : List ℕ) (t : Bool) (is-t : t ≡ soundRecord (length ring) s) (r : Listed) where
+  pub list-damaged : not t ≡ true → r ≡ unlisted R.Damaged → r ≡ childrenListed s ring
+  unfolding childrenListed
+  list-damaged h e = let u : soundRecord (length ring) s ≡ false = sym is-t ∙ denied t h in rw (u, e)
+
+  pub list-empty : not t ≡ false → s .queued ≤ s .taken → r ≡ unlisted R.Empty → r ≡ childrenListed s ring
+  unfolding childrenListed
+  list-empty h k e = let u : soundRecord (length ring) s ≡ true = sym is-t ∙ granted t h in rw (u, le-ltb (s .taken) (s .queued) k, e)
+
+  pub list-some : not t ≡ false → s .taken < s .queued → r ≡ listedFrom s (frontOf s ring) → r ≡ childrenListed s ring
+  unfolding childrenListed
+  list-some h k e = let u : soundRecord (length ring) s ≡ true = sym is-t ∙ granted t h in rw (u, lt-ltb (s .taken) (s .queued) k) e
+
+-- THE FRONT BLOCK
+
+module _ (s : State) (ring : List ℕ) (cells : ℕ) (t : Bool) (is-t : t ≡ soundRecord (length ring) s) where
+  pub open-damaged : not t ≡ true → P.Refused R.Damaged ≡ opening s ring cells
+  unfolding opening
+  open-damaged h = let u : soundRecord (length ring) s ≡ false = sym is-t ∙ denied t h in rw u
+
+  module _ (h : not t ≡ false) (n : ℕ) (is-n : n ≡ pixelCount (s .picture)) where
+    pub open-few : cells < n → P.Refused R.Cells ≡ opening s ring cells
+    unfolding opening
+    open-few k =
+        let u : soundRecord (length ring) s ≡ true = sym is-t ∙ granted t h in
+        let l : cells < pixelCount (s .picture) = rw is-n at k in
+        rw (u, lt-leb (pixelCount (s .picture)) cells l)
+
+    pub open-empty : n ≤ cells → s .queued ≤ s .taken → P.Refused R.Empty ≡ opening s ring cells
+    unfolding opening
+    open-empty k q =
+        let u : soundRecord (length ring) s ≡ true = sym is-t ∙ granted t h in
+        let l : pixelCount (s .picture) ≤ cells = rw is-n at k in
+        rw (u, le-leb (pixelCount (s .picture)) cells l, le-ltb (s .taken) (s .queued) q)
+
+    pub open-at : n ≤ cells → s .taken < s .queued → (k v : Taken) → k ≡ frontOf s ring → k ≡ v → openedAs v ≡ opening s ring cells
+    unfolding opening
+    open-at j q k v e f =
+        let u : soundRecord (length ring) s ≡ true = sym is-t ∙ granted t h in
+        let l : pixelCount (s .picture) ≤ cells = rw is-n at j in
+        rw (u, le-leb (pixelCount (s .picture)) cells l, lt-ltb (s .taken) (s .queued) q) (ap openedAs (sym f ∙ e))
+
+-- THE BLOCK
+
+and-false : (a : Bool) → a && false ≡ false
+and-false true = refl
+and-false false = refl
+
+and-true : (a : Bool) → a && true ≡ a
+and-true true = refl
+and-true false = refl
+
+seen-damage : (p : Picture) (b : Block) (cells : List ℕ) → leb (pixelCount p) (length cells) ≡ true → damageSeen p b cells ≡ seenIf (cellDamaged p b (meanings cells))
+unfolding someSeen cellDamaged ofKind
+seen-damage p b cells h = let r = rectangle-ready (b .x) (b .y) (p .width) (p .height) (length cells) ∙ h in rw r
+
+-- where the answer is known
+module _ (p : Picture) (b : Block) (cells : List ℕ) (h : leb (pixelCount p) (length cells) ≡ true) (v : Seen) (e : v ≡ damageSeen p b cells) where
+  told : v ≡ seenIf (cellDamaged p b (meanings cells))
+  told = e ∙ seen-damage p b cells h
+
+  pub fine-damaged : v ≡ S.Yes → false ≡ blockFine p cells b
+  fine-damaged k =
+      cases (cellDamaged p b (meanings cells)) (λ d. rw d (sym (and-false (undamaged p b))))
+      (λ d. (let j : S.Yes ≡ seenIf false = sym k ∙ told ∙ ap seenIf d in let z : _≡_ {A = ℕ} 0 1 = cc in absurd (omega arith)))
+
+  pub fine-as : v ≡ S.No → (u : Bool) → u ≡ undamaged p b → u ≡ blockFine p cells b
+  fine-as k u f =
+      cases (cellDamaged p b (meanings cells)) (λ d. (let j : S.No ≡ seenIf true = sym k ∙ told ∙ ap seenIf d in let z : _≡_ {A = ℕ} 0 1 = cc in absurd (omega arith)))
+      (λ d. rw d (f ∙ sym (and-true (undamaged p b))))
+
+  pub fine-never : {X : Type 0} → v ≡ S.Outside → X
+  fine-never k =
+      cases (cellDamaged p b (meanings cells)) (λ d. (let j : S.Outside ≡ seenIf true = sym k ∙ told ∙ ap seenIf d in let z : _≡_ {A = ℕ} 0 1 = cc in absurd (omega arith)))
+      (λ d. (let j : S.Outside ≡ seenIf false = sym k ∙ told ∙ ap seenIf d in let z : _≡_ {A = ℕ} 0 1 = cc in absurd (omega arith)))
+
+module _ (p : Picture) (b : Block) (cells : List ℕ) (children verdicts : ℕ) (tape t : Bool) (is-t : t ≡ blockFine p cells b) where
+  pub check-damaged : not t ≡ true → C.Refused R.Damaged ≡ blockCheck p b cells children verdicts tape
+  unfolding blockCheck
+  check-damaged h = let u : blockFine p cells b ≡ false = sym is-t ∙ denied t h in sym (cond-no (blockFine p cells b) _ _ u)
+
+  module _ (h : not t ≡ false) (e : Bool) (is-e : e ≡ enoughVerdicts tape children verdicts) where
+    fine : blockFine p cells b ≡ true
+    fine = sym is-t ∙ granted t h
+
+    pub check-few : not e ≡ true → C.Refused R.Verdicts ≡ blockCheck p b cells children verdicts tape
+    unfolding blockCheck
+    check-few k = sym (cond-yes (blockFine p cells b) _ _ fine ∙ cond-no (enoughVerdicts tape children verdicts) _ _ (sym is-e ∙ denied e k))
+
+    pub check-passed : not e ≡ false → C.Passed ≡ blockCheck p b cells children verdicts tape
+    unfolding blockCheck
+    check-passed k = sym (cond-yes (blockFine p cells b) _ _ fine ∙ cond-yes (enoughVerdicts tape children verdicts) _ _ (sym is-e ∙ granted e k))
+
+-- THE PLAN
+
+pub measured-few : (set : ℕ) (back : Last) (b : Block) (m : Measured) (count : ℕ) (last : Last) → m ≡ measured set back b → m ≡ M.Bytes count last → count ≤ 83
+unfolding measured
+measured-few set back b m count last e f =
+    cases (codable set back b)
+    (λ k. (let c = codable-both set back b k in
+    let g : M.Bytes (length (encode set back (settled set b))) _ ≡ M.Bytes count last = rw k at (sym e ∙ f) in
+    let j : length (encode set back (settled set b)) ≡ count = cc in
+    omega (arith, encode-few set back (settled set b) (c .0) (c .1))))
+    (λ k. (let g : M.NotCodable ≡ M.Bytes count last = rw k at (sym e ∙ f) in let z : _≡_ {A = ℕ} 0 1 = cc in absurd (omega arith)))
+
+module _ (s : State) (len used : ℕ) (p : Plan) where
+  pub plan-illegal : not (p .legal) ≡ true → C.Refused R.Verdict ≡ planCheck s len used p
+  unfolding planCheck
+  plan-illegal h = rw (denied (p .legal) h)
+
+  module _ (h : not (p .legal) ≡ false) where
+    pub plan-many : 4294967296 < s .queued + p .queued → C.Refused R.Numbers ≡ planCheck s len used p
+    unfolding planCheck
+    plan-many k = rw (granted (p .legal) h, lt-leb (s .queued + p .queued) (2 ^ 32) k)
+
+    module _ (k : s .queued + p .queued ≤ 4294967296) (size : ℕ) (is-size : size ≡ sizeOf (s .picture .set) (putLast (s .back)) (p .at)) (fits : used ≤ len) where
+      pub plan-full : len - used < size → C.Refused R.Room ≡ planCheck s len used p
+      unfolding planCheck
+      plan-full l =
+          let n = sizeOf (s .picture .set) (putLast (s .back)) (p .at) in
+          let m : len < used + n = omega arith in
+          rw (granted (p .legal) h, le-leb (s .queued + p .queued) (2 ^ 32) k, lt-leb (used + n) len m)
+
+      pub plan-passed : size ≤ len - used → C.Passed ≡ planCheck s len used p
+      unfolding planCheck
+      plan-passed l =
+          let n = sizeOf (s .picture .set) (putLast (s .back)) (p .at) in
+          let m : used + n ≤ len = omega arith in
+          rw (granted (p .legal) h, le-leb (s .queued + p .queued) (2 ^ 32) k, le-leb (used + n) len m)
+
+-- CHILD BY CHILD: what is left to do from here is what was to do
+
+module _ (at : List Planned) (i : ℕ) where
+  here : i < length at → (d : Planned) → drop i at ≡ getD at i d ∷ drop (i + 1) at
+  here h d = rw add-one (drop-cons at i d h)
+
+  done : length at ≤ i → drop i at ≡ []
+  done h = drop-of-length-le at h
+
+  pub sized-on : (set : ℕ) (z r : Size) (d : Planned) → i < length at → r ≡ sizedBy set z (getD at i d .block) (getD at i d .fate) → sizedAll set r (drop (i + 1) at) ≡ sizedAll set z (drop i at)
+  unfolding sizedAll
+  sized-on set z r d h e = rw (here h d, e)
+
+  pub sized-end : (set : ℕ) (z : Size) → length at ≤ i → sizedAll set z (drop i at) ≡ z
+  unfolding sizedAll
+  sized-end set z h = rw (done h)
+
+  pub marked-on : (p : Picture) (cells r : List ℕ) (d : Planned) → i < length at → r ≡ markedBy p cells (getD at i d .block) (getD at i d .fate) → markedAll p r (drop (i + 1) at) ≡ markedAll p cells (drop i at)
+  unfolding markedAll
+  marked-on p cells r d h e = rw (here h d, e)
+
+  pub marked-end : (p : Picture) (cells : List ℕ) → length at ≤ i → markedAll p cells (drop i at) ≡ cells
+  unfolding markedAll
+  marked-end p cells h = rw (done h)
+
+  pub carried-on : (from : ℕ) (b : Block) (w v : World) (d : Planned) → i < length at → v ≡ carriedBy from b w (getD at i d .block) (getD at i d .fate) → carriedAll from b v (drop (i + 1) at) ≡ carriedAll from b w (drop i at)
+  unfolding carriedAll
+  carried-on from b w v d h e = rw (here h d, e)
+
+  pub carried-end : (from : ℕ) (b : Block) (w : World) → length at ≤ i → carriedAll from b w (drop i at) ≡ w
+  unfolding carriedAll
+  carried-end from b w h = rw (done h)
+
+-- a child queued, by what the queue answers
+module _ (from : ℕ) (b : Block) (s : State) (ring cells ring′ : List ℕ) (a : Appended) (is-a : a ≡ appended (length ring) (s .head) (s .used) (s .picture .set) (s .back) b)
+    (is-ring : ring′ ≡ appendedRing ring (s .head) (s .used) (s .picture .set) (s .back) b) where
+  pub queued-by : (v : Appended) → a ≡ v → queuedAs from b (worldOf s ring cells) ring′ v ≡ withQueued from b (worldOf s ring cells)
+  unfolding withQueued
+  queued-by v e = rw (is-ring, sym e ∙ is-a)
+
+  pub queued-done : (last : Last) (used : ℕ) (r : State) (cells′ : List ℕ) → a ≡ A.Done last used → r ≡ numbered s last used
+      → cells′ ≡ paintedBlock (s .picture) b (O.Name from (s .queued)) cells → worldOf r ring′ cells′ ≡ withQueued from b (worldOf s ring cells)
+  queued-done last used r cells′ e f g = rw (f, g) (queued-by (A.Done last used) e)
+
+-- the marks, the record with the front block taken, and the rest
+pub committed-by : (s : State) (ring cells : List ℕ) (f : Front) (es : List Planned) (marked : List ℕ) (t r : State) (ring′ cells′ : List ℕ) → marked ≡ markedAll (s .picture) cells es → t ≡ takenState s f
+    → worldOf r ring′ cells′ ≡ carriedAll (s .taken) (f .block) (worldOf t ring marked) es → worldOf r ring′ cells′ ≡ committed (worldOf s ring cells) f es
+unfolding committed
+committed-by s ring cells f es marked t r ring′ cells′ e g h = h ∙ rw (e, g)

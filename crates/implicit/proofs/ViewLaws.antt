@@ -1,0 +1,309 @@
+-- Laws of the picture and the counts: the pixels' cells, the answers by the tests that lead there, byte by byte, and the sums. Assumes nothing.
+use mathlib.Core.Path.{_≡_, refl, sym, ap, _∙_}
+use mathlib.Core.Bool.{Bool, true, false, not, cond}
+use mathlib.Core.List.{List, [], _∷_, _++_, map, map-append}
+use Prim.Native.Nat.{ℕ, zero, suc, _+_, _-_, _*_, _^_, _≤_, _<_}
+use native.Mathlib.Nat.{div-mul-le-self, lt-div-mul-add, div-lt-iff-lt-mul}
+use native.Mathlib.Numerals.{add-one}
+use native.Mathlib.Omega.{arith}
+use lib.Dec.{leb}
+use lib.ListN.{length, getD, take, drop, set, length-append, length-drop}
+use lib.ListN as L
+use lib.Seq.{take-suc, drop-cons, append-snoc, set-at, length-take-le, take-at, drop-at}
+use borrow.Author.Tests.{le-leb, lt-leb, leb-true}
+use Rattle.refusal.specs.declared.Refusal.{Refusal}
+use Rattle.refusal.specs.declared.Refusal.the-variants as R
+use Rattle.image.specs.declared.Kind.the-variants as K
+use Rattle.image.specs.declared.Reading.{Reading}
+use Rattle.image.specs.declared.Reading.the-variants as G
+use Rattle.image.specs.declared.Seen.{Seen}
+use Rattle.image.specs.declared.Seen.the-variants as S
+use Rattle.image.specs.declared.Tally.{Tally}
+use Rattle.image.specs.declared.TallyAnswer.{TallyAnswer}
+use Rattle.image.specs.declared.TallyAnswer.the-variants as A
+use Rattle.image.specs.Cell.{Cell, Named, Marked, GivenUp, Other, meaningOf, meanings, reading, byteOf, isDamaged, isGivenUp, ofKind, countOf, isTrue, isFalse, isUncertain, tallied}
+use Rattle.image.specs.Range.{cellIndex, wholePicture}
+use Rattle.image.specs.Painting.{pixelCell, someOf, seenIf, someSeen, tallyAnswer}
+use Rattle.image.proofs.RangeLaws.{cell-below}
+use Rattle.image.proofs.CountLaws.{tally-answered}
+use Rattle.decide.specs.declared.Picture.{Picture}
+use Rattle.implicit.specs.declared.state.State.{State}
+use Rattle.implicit.specs.declared.state.Counts.{Counts}
+use Rattle.implicit.specs.declared.state.Counted.{Counted}
+use Rattle.implicit.specs.declared.state.Counted.the-variants as C
+use Rattle.implicit.specs.declared.state.Drawn.{Drawn}
+use Rattle.implicit.specs.declared.state.Drawn.the-variants as D
+use Rattle.implicit.specs.Record.{pixelCount, pixelCells, soundRecord}
+use Rattle.implicit.specs.View.{cellsFine, pictureBytes, pictureLeft, shareOf, pictureAnswer, countsFrom, countsOf, countsAnswer}
+use Rattle.implicit.proofs.RecordLaws.{sound-picture, pixels-some, pixels-most, pixel-cells, pixel-cells-length, pixel-cell-at, whole-ready, whole-seen}
+
+-- DAMAGED CELLS
+
+damaged-some : (l : List Cell) → someOf (ofKind K.Damaged) l ≡ someOf isDamaged l
+unfolding ofKind someOf
+damaged-some [] = refl
+damaged-some (c ∷ l) = rw (damaged-some l)
+
+-- what was seen, as yes or no
+abbrev pub seenFine : Seen → Bool
+seenFine S.Yes = false
+seenFine S.No = true
+seenFine S.Outside = false
+
+pub fine-as : (s : State) (cells : List ℕ) (v w : Seen) → pixelCount (s .picture) ≤ length cells
+    → v ≡ someSeen (s .picture .width) (s .picture .height) (wholePicture (s .picture .width) (s .picture .height)) K.Damaged cells → v ≡ w
+    → seenFine w ≡ cellsFine s cells
+fine-as s cells v w h e f =
+    let p = s .picture in
+    let b = someOf (ofKind K.Damaged) (pixelCells p cells) in
+    ap seenFine (sym f ∙ e ∙ whole-seen p cells K.Damaged h)
+    ∙ go b ∙ ap not (damaged-some (pixelCells p cells))
+  where
+    go : (b : Bool) → seenFine (seenIf b) ≡ not b
+    go true = refl
+    go false = refl
+
+-- THE ANSWERS, BY THE TESTS THAT LEAD THERE
+
+module _ (s : State) (cells : List ℕ) (room : ℕ) where
+  pub refused-record : soundRecord (s .len) s ≡ false → pictureAnswer s cells room ≡ D.Refused R.Damaged
+  unfolding pictureAnswer
+  refused-record h = rw h
+
+  pub refused-cells : soundRecord (s .len) s ≡ true → length cells < pixelCount (s .picture) → pictureAnswer s cells room ≡ D.Refused R.Cells
+  unfolding pictureAnswer
+  refused-cells h k = rw (h, lt-leb (pixelCount (s .picture)) (length cells) k)
+
+  pub refused-room : soundRecord (s .len) s ≡ true → pixelCount (s .picture) ≤ length cells → room < pixelCount (s .picture)
+      → pictureAnswer s cells room ≡ D.Refused R.Picture
+  unfolding pictureAnswer
+  refused-room h k m = rw (h, le-leb (pixelCount (s .picture)) (length cells) k, lt-leb (pixelCount (s .picture)) room m)
+
+  pub refused-cell : soundRecord (s .len) s ≡ true → pixelCount (s .picture) ≤ length cells → pixelCount (s .picture) ≤ room → cellsFine s cells ≡ false
+      → pictureAnswer s cells room ≡ D.Refused R.Damaged
+  unfolding pictureAnswer
+  refused-cell h k m f = rw (h, le-leb (pixelCount (s .picture)) (length cells) k, le-leb (pixelCount (s .picture)) room m, f)
+
+-- what a picture that can be drawn has
+pub record Viewable (s : State) (cells : List ℕ) (room : ℕ) : Type 0 where
+  pub record-sound : soundRecord (s .len) s ≡ true
+  pub enough : pixelCount (s .picture) ≤ length cells
+  pub room-left : pixelCount (s .picture) ≤ room
+  pub cells-fine : cellsFine s cells ≡ true
+
+pub viewable-drawn : (s : State) (cells : List ℕ) (room : ℕ) → Viewable s cells room → pictureAnswer s cells room ≡ D.Done
+unfolding pictureAnswer
+viewable-drawn s cells room v =
+    rw (v .record-sound, le-leb (pixelCount (s .picture)) (length cells) (v .enough), le-leb (pixelCount (s .picture)) room (v .room-left), v .cells-fine)
+
+never : (why : Refusal) {P : Type 0} → D.Refused why ≡ D.Done → P
+never why e = let z : _≡_ {A = ℕ} 0 1 = cc in absurd (omega arith)
+
+four : (a b c d : Bool) → cond a (cond b (cond c (cond d D.Done (D.Refused R.Damaged)) (D.Refused R.Picture)) (D.Refused R.Cells)) (D.Refused R.Damaged) ≡ D.Done
+    → (a ≡ true) × (b ≡ true) × (c ≡ true) × (d ≡ true)
+four true true true true e = (refl, refl, refl, refl)
+four true true true false e = never R.Damaged e
+four true true false d e = never R.Picture e
+four true false c d e = never R.Cells e
+four false b c d e = never R.Damaged e
+
+pub drawn-viewable : (s : State) (cells : List ℕ) (room : ℕ) → pictureAnswer s cells room ≡ D.Done → Viewable s cells room
+unfolding pictureAnswer
+drawn-viewable s cells room e =
+    let n = pixelCount (s .picture) in
+    let f = four (soundRecord (s .len) s) (leb n (length cells)) (leb n room) (cellsFine s cells) e in
+    record { record-sound = f .0; enough = leb-true n (length cells) (f .1); room-left = leb-true n room (f .2); cells-fine = f .3 }
+
+-- the counts are refused as a picture is that has room
+abbrev pub countedIf : Drawn → Counts → Counted
+countedIf D.Done n = C.Of n
+countedIf (D.Refused why) n = C.Refused why
+
+pub counts-as-picture : (s : State) (cells : List ℕ) (room : ℕ) → room ≡ pixelCount (s .picture)
+    → countedIf (pictureAnswer s cells room) (countsOf s cells) ≡ countsAnswer s cells
+unfolding pictureAnswer countsAnswer
+counts-as-picture s cells room e =
+    rw (le-leb (pixelCount (s .picture)) room (omega arith))
+    (go (soundRecord (s .len) s) (leb (pixelCount (s .picture)) (length cells)) (cellsFine s cells))
+  where
+    go : (a b d : Bool)
+        → countedIf (cond a (cond b (cond d D.Done (D.Refused R.Damaged)) (D.Refused R.Cells)) (D.Refused R.Damaged)) (countsOf s cells)
+        ≡ cond a (cond b (cond d (C.Of (countsOf s cells)) (C.Refused R.Damaged)) (C.Refused R.Cells)) (C.Refused R.Damaged)
+    go true true true = refl
+    go true true false = refl
+    go true false d = refl
+    go false b d = refl
+
+pub counts-done : (s : State) (cells : List ℕ) (room : ℕ) → room ≡ pixelCount (s .picture) → pictureAnswer s cells room ≡ D.Done → countsAnswer s cells ≡ C.Of (countsOf s cells)
+counts-done s cells room e d = sym (counts-as-picture s cells room e) ∙ ap (λ (a : Drawn). countedIf a (countsOf s cells)) d
+
+pub counts-refused : (s : State) (cells : List ℕ) (room : ℕ) (why : Refusal) → room ≡ pixelCount (s .picture) → pictureAnswer s cells room ≡ D.Refused why
+    → countsAnswer s cells ≡ C.Refused why
+counts-refused s cells room why e d = sym (counts-as-picture s cells room e) ∙ ap (λ (a : Drawn). countedIf a (countsOf s cells)) d
+
+-- BYTE BY BYTE
+
+-- the byte of a cell's code
+abbrev pub shownByte : ℕ → ℕ → ℕ
+shownByte taken n = byteOf (reading taken (meaningOf n))
+
+-- the buffer once the first i bytes are written
+unfoldable pub drawnTo : ℕ → ℕ → List ℕ → List ℕ → List ℕ
+drawnTo taken i cells out = map (shownByte taken) (take i cells) ++ drop i out
+
+pub draw-start : (taken : ℕ) (cells out : List ℕ) → out ≡ drawnTo taken 0 cells out
+unfolding drawnTo
+draw-start taken [] out = refl
+draw-start taken (n ∷ cells) out = refl
+
+pub draw-turn : (taken i v : ℕ) (cells out now : List ℕ) → i < length cells → i < length out → now ≡ drawnTo taken i cells out → v ≡ shownByte taken (getD cells i 0)
+    → set now i v ≡ drawnTo taken (i + 1) cells out
+unfolding drawnTo
+draw-turn taken i v cells out now h k e f =
+    let front = map (shownByte taken) (take i cells) in
+    let n : length front ≡ i = L.length-map (take i cells) (shownByte taken) ∙ length-take-le i cells (omega arith) in
+    ap (λ (l : List ℕ). set l i v) (e ∙ ap (λ (l : List ℕ). front ++ l) (drop-cons out i 0 k))
+    ∙ set-at front (getD out i 0) (drop (suc i) out) v i n
+    ∙ sym (append-snoc front v (drop (suc i) out))
+    ∙ ap (λ (l : List ℕ). l ++ drop (suc i) out)
+    (ap (λ (b : ℕ). front ++ (b ∷ [])) f ∙ sym (map-append (shownByte taken) (take i cells) (getD cells i 0 ∷ [])) ∙ sym (ap (map (shownByte taken)) (take-suc cells i 0 h)))
+    ∙ rw add-one
+
+map-map : (taken : ℕ) (l : List ℕ) → map (shownByte taken) l ≡ map (λ c. byteOf (reading taken c)) (meanings l)
+map-map taken [] = refl
+map-map taken (n ∷ l) = ap (λ (r : List ℕ). shownByte taken n ∷ r) (map-map taken l)
+
+take-meanings : (k : ℕ) (l : List ℕ) → meanings (take k l) ≡ take k (meanings l)
+take-meanings zero [] = refl
+take-meanings zero (n ∷ l) = refl
+take-meanings (suc k) [] = refl
+take-meanings (suc k) (n ∷ l) = ap (λ (r : List Cell). meaningOf n ∷ r) (take-meanings k l)
+
+bytes-shown : (s : State) (cells : List ℕ) → map (shownByte (s .taken)) (take (pixelCount (s .picture)) cells) ≡ pictureBytes s cells
+unfolding pictureBytes
+bytes-shown s cells =
+    map-map (s .taken) (take (pixelCount (s .picture)) cells)
+    ∙ ap (map (λ c. byteOf (reading (s .taken) c))) (take-meanings (pixelCount (s .picture)) cells ∙ sym (pixel-cells (s .picture) cells))
+
+pub draw-end : (s : State) (i : ℕ) (cells out : List ℕ) → i ≡ pixelCount (s .picture) → drawnTo (s .taken) i cells out ≡ pictureLeft s cells out
+unfolding drawnTo pictureLeft
+draw-end s i cells out e = rw e (ap (λ (l : List ℕ). l ++ drop (pixelCount (s .picture)) out) (bytes-shown s cells))
+
+-- a byte for each pixel
+pub picture-length : (s : State) (cells : List ℕ) → pixelCount (s .picture) ≤ length cells → length (pictureBytes s cells) ≡ pixelCount (s .picture)
+unfolding pictureBytes
+picture-length s cells h = L.length-map (pixelCells (s .picture) cells) (λ c. byteOf (reading (s .taken) c)) ∙ pixel-cells-length (s .picture) cells h
+
+map-at : {A : Type 0} (f : A → ℕ) (l : List A) (i : ℕ) (d : A) → i < length l → getD (map f l) i 0 ≡ f (getD l i d)
+map-at f [] i d h = absurd (omega arith)
+map-at f (c ∷ l) zero d h = refl
+map-at f (c ∷ l) (suc i) d h = map-at f l i d (omega arith)
+
+-- and the one of the pixel in column x that is the y-th from the bottom is that of its cell's reading
+pub picture-byte : (s : State) (cells : List ℕ) (x y : ℕ) → pixelCount (s .picture) ≤ length cells → x < s .picture .width → y < s .picture .height
+    → getD (pictureBytes s cells) (cellIndex (s .picture .width) (s .picture .height) x y) 0
+    ≡ byteOf (reading (s .taken) (pixelCell (s .picture .width) (s .picture .height) x y (meanings cells)))
+unfolding pictureBytes
+picture-byte s cells x y h a b =
+    let p = s .picture in
+    let i = cellIndex (p .width) (p .height) x y in
+    let n = pixel-cells-length p cells h in
+    let k = cell-below (p .width) (p .height) x y a b in
+    map-at (λ c. byteOf (reading (s .taken) c)) (pixelCells p cells) i (Named 0) (omega arith)
+    ∙ ap (λ (c : Cell). byteOf (reading (s .taken) c)) (pixel-cell-at p cells x y a b)
+
+-- the buffer: as long as it was, the picture first, the bytes beyond as they were
+module _ (s : State) (cells out : List ℕ) (enough : pixelCount (s .picture) ≤ length cells) (room : pixelCount (s .picture) ≤ length out) where
+  pub left-length : length (pictureLeft s cells out) ≡ length out
+  unfolding pictureLeft
+  left-length =
+      let n = picture-length s cells enough in
+      length-append (pictureBytes s cells) (drop (pixelCount (s .picture)) out) ∙ omega (arith, length-drop (pixelCount (s .picture)) out)
+
+  pub left-picture : take (pixelCount (s .picture)) (pictureLeft s cells out) ≡ pictureBytes s cells
+  unfolding pictureLeft
+  left-picture = take-at (pictureBytes s cells) (drop (pixelCount (s .picture)) out) (pixelCount (s .picture)) (picture-length s cells enough)
+
+  pub left-beyond : drop (pixelCount (s .picture)) (pictureLeft s cells out) ≡ drop (pixelCount (s .picture)) out
+  unfolding pictureLeft
+  left-beyond = drop-at (pictureBytes s cells) (drop (pixelCount (s .picture)) out) (pixelCount (s .picture)) (picture-length s cells enough)
+
+-- THE COUNTS
+
+-- a cell reads one of three ways
+one-reading : (g : Reading) → cond (isTrue g) 1 0 + cond (isFalse g) 1 0 + cond (isUncertain g) 1 0 ≡ 1
+unfolding isTrue isFalse isUncertain
+one-reading G.False = refl
+one-reading G.Uncertain = refl
+one-reading G.True = refl
+
+pub tally-adds : (taken : ℕ) (l : List Cell) → tallied taken l .trues + tallied taken l .falses + tallied taken l .uncertain ≡ length l
+unfolding tallied countOf
+tally-adds taken [] = refl
+tally-adds taken (c ∷ l) = let e = tally-adds taken l in let f = one-reading (reading taken c) in omega arith
+
+-- a given-up cell is uncertain too
+given-up-reads : (taken : ℕ) (c : Cell) → cond (isGivenUp c) 1 0 ≤ cond (isUncertain (reading taken c)) 1 0
+unfolding isGivenUp isUncertain reading
+given-up-reads taken (Named n) = omega arith
+given-up-reads taken Marked = omega arith
+given-up-reads taken GivenUp = omega arith
+given-up-reads taken (Other n) = omega arith
+
+pub given-up-uncertain : (taken : ℕ) (l : List Cell) → tallied taken l .givenup ≤ tallied taken l .uncertain
+unfolding tallied countOf
+given-up-uncertain taken [] = omega arith
+given-up-uncertain taken (c ∷ l) = let h = given-up-uncertain taken l in let k = given-up-reads taken c in omega arith
+
+pub settled-few : (p : Picture) (taken : ℕ) (l : List ℕ) (t : Tally) → pixelCount p ≤ length l → t ≡ tallied taken (pixelCells p l) → t .trues + t .falses ≤ pixelCount p
+settled-few p taken l t h e =
+    let a = tally-adds taken (pixelCells p l) in
+    let n = pixel-cells-length p l h in
+    let f : t .trues + t .falses ≡ tallied taken (pixelCells p l) .trues + tallied taken (pixelCells p l) .falses = ap (λ (u : Tally). u .trues + u .falses) e in
+    omega arith
+
+-- what `image` counts of the whole picture
+module _ (s : State) (cells : List ℕ) (a : TallyAnswer) (enough : pixelCount (s .picture) ≤ length cells)
+    (e : a ≡ tallyAnswer (s .picture .width) (s .picture .height) (wholePicture (s .picture .width) (s .picture .height)) (s .taken) cells) where
+  whole-tallied : a ≡ A.Of (tallied (s .taken) (pixelCells (s .picture) cells))
+  whole-tallied = e ∙ tally-answered (s .picture .width) (s .picture .height) (wholePicture (s .picture .width) (s .picture .height)) (s .taken) cells (whole-ready (s .picture) (length cells) enough)
+
+  pub tally-told : (t : Tally) → a ≡ A.Of t → t ≡ tallied (s .taken) (pixelCells (s .picture) cells)
+  tally-told t f = let g = whole-tallied in cc
+
+  pub tally-never-outside : {P : Type 0} → a ≡ A.Outside → P
+  tally-never-outside f = let g = whole-tallied in let z : _≡_ {A = ℕ} 0 1 = cc in absurd (omega arith)
+
+pub share-asks : (s : State) (pixels settled : ℕ) → soundRecord (s .len) s ≡ true → pixels ≡ pixelCount (s .picture) → settled ≤ pixelCount (s .picture)
+    → (1 ≤ pixels) × (pixels ≤ 2 ^ 30) × (settled ≤ pixels)
+share-asks s pixels settled h e k =
+    let p = sound-picture (s .len) s h in
+    (omega (arith, pixels-some (s .picture) p), omega (arith, pixels-most (s .picture) p), omega arith)
+
+pub settled-fits : (s : State) (settled : ℕ) → soundRecord (s .len) s ≡ true → settled ≤ pixelCount (s .picture) → settled < 2 ^ 64
+settled-fits s settled h k = omega (arith, pixels-most (s .picture) (sound-picture (s .len) s h))
+
+pub counts-from-as : (s : State) (t : Tally) (pixels share : ℕ) → pixels ≡ pixelCount (s .picture) → share ≡ shareOf (t .trues + t .falses) pixels
+    → record { trues = t .trues; falses = t .falses; uncertain = t .uncertain; givenup = t .givenup; queued = s .queued - s .taken; share = share } ≡ countsFrom s t
+unfolding countsFrom
+counts-from-as s t pixels share e f = rw (f, e)
+
+-- the three readings add up to the pixels, and the given-up cells are among the uncertain ones
+pub counts-add : (s : State) (cells : List ℕ) → pixelCount (s .picture) ≤ length cells
+    → countsOf s cells .trues + countsOf s cells .falses + countsOf s cells .uncertain ≡ pixelCount (s .picture)
+unfolding countsFrom
+counts-add s cells h = tally-adds (s .taken) (pixelCells (s .picture) cells) ∙ pixel-cells-length (s .picture) cells h
+
+pub counts-given-up : (s : State) (cells : List ℕ) → countsOf s cells .givenup ≤ countsOf s cells .uncertain
+unfolding countsFrom
+counts-given-up s cells = given-up-uncertain (s .taken) (pixelCells (s .picture) cells)
+
+-- to the nearest thousandth, half up: the share less a half is at most 1000 * settled / pixels, which is under the share and a half
+pub share-nearest : (settled pixels : ℕ) → 1 ≤ pixels
+    → (shareOf settled pixels * (2 * pixels) ≤ 2000 * settled + pixels) × (2000 * settled + pixels < shareOf settled pixels * (2 * pixels) + 2 * pixels)
+unfolding shareOf
+share-nearest settled pixels h = (div-mul-le-self (2000 * settled + pixels) (2 * pixels), lt-div-mul-add {a = 2000 * settled + pixels} {b = 2 * pixels} (omega arith))
+
+pub share-most : (settled pixels : ℕ) → 1 ≤ pixels → settled ≤ pixels → shareOf settled pixels ≤ 1000
+unfolding shareOf
+share-most settled pixels h k = let f : shareOf settled pixels < 1001 = div-lt-iff-lt-mul {k = 2 * pixels} {x = 2000 * settled + pixels} {y = 1001} (omega arith) .1 (omega arith) in omega arith

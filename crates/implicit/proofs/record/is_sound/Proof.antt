@@ -1,0 +1,46 @@
+-- `implicit::record::is_sound` meets its contract. Assumes nothing.
+use Rattle.implicit.proofs.RecordLaws.{sound-record-as}
+use Rattle.implicit.proofs.record.is_sound.Statement.{statement}
+use Rattle.implicit.proofs.record.is_sound.Tie as tie
+
+is-legal-picture-requires : tie.Need-is-legal-picture-requires
+is-legal-picture-requires c κs = tt
+
+has-sound-counts-requires : tie.Need-has-sound-counts-requires
+has-sound-counts-requires c κs = tt
+
+has-sound-ring-requires : tie.Need-has-sound-ring-requires
+has-sound-ring-requires c κs = tt
+
+has-sound-use-requires : tie.Need-has-sound-use-requires
+has-sound-use-requires c κs = tt
+
+is-sound-last-requires : tie.Need-is-sound-last-requires
+is-sound-last-requires c κs = tt
+
+is-sound-last-requires-2 : tie.Need-is-sound-last-requires-2
+is-sound-last-requires-2 c κs = tt
+
+returns : tie.Need-returns
+returns c =
+    let a = c .before .before .before .before .before .before .args in
+    let p = c .before .before .before .before .before .is-legal-picture in
+    let n = c .before .before .before .before .has-sound-counts in
+    let r = c .before .before .before .has-sound-ring in
+    let u = c .before .before .has-sound-use in
+    let f = c .before .is-sound-last in
+    let b = c .is-sound-last2 in
+    sound-record-as (a .len) (a .s) (p .result) (n .result) (r .result) (u .result) (f .result) (b .result)
+    (p .ensures) (n .ensures) (r .ensures) (u .ensures) (f .ensures) (b .ensures)
+
+pub is-sound-spec : {M : Type 1} → statement M
+is-sound-spec =
+    tie.close
+    (tie.spec
+    is-legal-picture-requires
+    has-sound-counts-requires
+    has-sound-ring-requires
+    has-sound-use-requires
+    is-sound-last-requires
+    is-sound-last-requires-2
+    returns)

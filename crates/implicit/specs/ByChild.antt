@@ -1,0 +1,168 @@
+-- A step's checks and its writing, child by child: what the code computes. The laws say that this is the step. No child is left out, also where
+-- a block could not be queued: then nothing changes, and the laws say that this does not happen.
+use mathlib.Core.Path.{_≡_}
+use mathlib.Core.Bool.{Bool, true, false, cond}
+use mathlib.Core.List.{List, [], _∷_}
+use Prim.Native.Nat.{ℕ, _+_, _^_}
+use lib.Dec.{leb, ltb}
+use lib.ListN.{length}
+use Rattle.refusal.specs.declared.Refusal.{Refusal}
+use Rattle.refusal.specs.declared.Refusal.the-variants as R
+use Rattle.image.specs.declared.Op.{Op}
+use Rattle.image.specs.declared.Op.the-variants as O
+use Rattle.image.specs.Range.{rectangleOf}
+use Rattle.image.specs.Painting.{paintedCells}
+use Rattle.queue.specs.declared.Block.{Block}
+use Rattle.queue.specs.declared.Last.{Last}
+use Rattle.queue.specs.declared.Taken.{Taken}
+use Rattle.queue.specs.declared.Taken.the-variants as T
+use Rattle.queue.specs.declared.Measured.{Measured}
+use Rattle.queue.specs.declared.Measured.the-variants as M
+use Rattle.queue.specs.declared.Appended.{Appended}
+use Rattle.queue.specs.declared.Appended.the-variants as A
+use Rattle.queue.specs.Queue.{measured, appended, appendedRing}
+use Rattle.decide.specs.declared.Picture.{Picture}
+use Rattle.decide.specs.declared.plan.Fate.{Fate}
+use Rattle.decide.specs.declared.plan.Fate.the-variants as F
+use Rattle.decide.specs.declared.plan.Plan.{Plan}
+use Rattle.decide.specs.declared.plan.Planned.{Planned}
+use Rattle.decide.specs.Children.{childrenOf}
+use Rattle.implicit.specs.declared.state.State.{State}
+use Rattle.implicit.specs.declared.advance.Check.{Check}
+use Rattle.implicit.specs.declared.advance.Check.the-variants as C
+use Rattle.implicit.specs.declared.advance.Front.{Front}
+use Rattle.implicit.specs.declared.advance.Opened.{Opened}
+use Rattle.implicit.specs.declared.advance.Opened.the-variants as P
+use Rattle.implicit.specs.declared.advance.Size.{Size}
+use Rattle.implicit.specs.Record.{pixelCount, soundRecord, putLast}
+use Rattle.implicit.specs.Listing.{frontOf}
+use Rattle.implicit.specs.Step.{World, worldOf, blockFine, enoughVerdicts}
+
+-- THE CHECKS
+
+-- the front block, if it is read
+abbrev pub openedAs : Taken → Opened
+openedAs (T.Front b last head used) = P.At (record { block = b; last = last; head = head; used = used })
+openedAs T.Damaged = P.Refused R.Damaged
+openedAs T.Outside = P.Refused R.Damaged
+
+-- "8 for the record, 2, 13", and the bytes of the block; there are so many cells
+unfoldable pub opening : State → List ℕ → ℕ → Opened
+opening s ring cells =
+    cond (soundRecord (length ring) s)
+    (cond (leb (pixelCount (s .picture)) cells)
+    (cond (ltb (s .taken) (s .queued)) (openedAs (frontOf s ring)) (P.Refused R.Empty))
+    (P.Refused R.Cells))
+    (P.Refused R.Damaged)
+
+-- what is known of a step whose front block is read
+pub record Begun (s : State) (ring cells : List ℕ) (f : Front) : Type 0 where
+  pub sound-record : soundRecord (length ring) s ≡ true
+  pub cells-enough : leb (pixelCount (s .picture)) (length cells) ≡ true
+  pub not-empty : ltb (s .taken) (s .queued) ≡ true
+  pub front-read : frontOf s ring ≡ T.Front (f .block) (f .last) (f .head) (f .used)
+
+-- "8 for the block, 4"
+unfoldable pub blockCheck : Picture → Block → List ℕ → ℕ → ℕ → Bool → Check
+blockCheck p b cells children verdicts tape =
+    cond (blockFine p cells b)
+    (cond (enoughVerdicts tape children verdicts) C.Passed (C.Refused R.Verdicts))
+    (C.Refused R.Damaged)
+
+-- the bytes of the children so far, with what is remembered of the last of them, and those of one more
+abbrev pub withCode : Size → Measured → Size
+withCode z (M.Bytes count last) = record { total = z .total + count; last = last }
+withCode z M.NotCodable = z
+
+abbrev pub sizedBy : ℕ → Size → Block → Fate → Size
+sizedBy set z b F.Nothing = z
+sizedBy set z b F.Mark = z
+sizedBy set z b F.Queue = withCode z (measured set (z .last) b)
+sizedBy set z b F.GiveUp = z
+
+unfoldable pub sizedAll : ℕ → Size → List Planned → Size
+sizedAll set z [] = z
+sizedAll set z (e ∷ es) = sizedAll set (sizedBy set z (e .block) (e .fate)) es
+
+abbrev pub sizeOf : ℕ → Last → List Planned → ℕ
+sizeOf set back es = sizedAll set (record { total = 0; last = back }) es .total
+
+-- "5, 7, 6"
+unfoldable pub planCheck : State → ℕ → ℕ → Plan → Check
+planCheck s len used p =
+    cond (p .legal)
+    (cond (leb (s .queued + p .queued) (2 ^ 32))
+    (cond (leb (used + sizeOf (s .picture .set) (putLast (s .back)) (p .at)) len) C.Passed (C.Refused R.Room))
+    (C.Refused R.Numbers))
+    (C.Refused R.Verdict)
+
+-- THE WRITING
+
+-- the cells that a block covers painted
+abbrev pub paintedBlock : Picture → Block → Op → List ℕ → List ℕ
+paintedBlock p b op cells = paintedCells (p .width) (p .height) (rectangleOf (b .x) (b .y) (p .width) (p .height)) op cells
+
+-- first the marks
+abbrev pub markedBy : Picture → List ℕ → Block → Fate → List ℕ
+markedBy p cells b F.Nothing = cells
+markedBy p cells b F.Mark = paintedBlock p b O.Mark cells
+markedBy p cells b F.Queue = cells
+markedBy p cells b F.GiveUp = cells
+
+unfoldable pub markedAll : Picture → List ℕ → List Planned → List ℕ
+markedAll p cells [] = cells
+markedAll p cells (e ∷ es) = markedAll p (markedBy p cells (e .block) (e .fate)) es
+
+-- the record once the front block is taken
+abbrev pub takenState : State → Front → State
+takenState s f = record {
+  picture = s .picture;
+  taken = s .taken + 1;
+  queued = s .queued;
+  len = s .len;
+  head = f .head;
+  used = f .used;
+  front = f .last;
+  back = putLast (s .back);
+}
+
+-- a child queued: its number is the next one, and cells that name block `from` or a later one name it
+abbrev pub numbered : State → Last → ℕ → State
+numbered s last used = record {
+  picture = s .picture;
+  taken = s .taken;
+  queued = s .queued + 1;
+  len = s .len;
+  head = s .head;
+  used = used;
+  front = s .front;
+  back = last;
+}
+
+abbrev pub queuedAs : ℕ → Block → World → List ℕ → Appended → World
+queuedAs from b w ring (A.Done last used) = worldOf (numbered (w .state) last used) ring (paintedBlock (w .state .picture) b (O.Name from (w .state .queued)) (w .cells))
+queuedAs from b w ring A.NoRoom = worldOf (w .state) ring (w .cells)
+queuedAs from b w ring A.NotCodable = worldOf (w .state) ring (w .cells)
+queuedAs from b w ring A.Outside = worldOf (w .state) ring (w .cells)
+
+unfoldable pub withQueued : ℕ → Block → World → World
+withQueued from b w =
+    let s = w .state in
+    queuedAs from b w (appendedRing (w .ring) (s .head) (s .used) (s .picture .set) (s .back) b)
+    (appended (length (w .ring)) (s .head) (s .used) (s .picture .set) (s .back) b)
+
+-- then the rest
+abbrev pub carriedBy : ℕ → Block → World → Block → Fate → World
+carriedBy from parent w b F.Nothing = w
+carriedBy from parent w b F.Mark = w
+carriedBy from parent w b F.Queue = withQueued from b w
+carriedBy from parent w b F.GiveUp = worldOf (w .state) (w .ring) (paintedBlock (w .state .picture) parent O.GiveUp (w .cells))
+
+unfoldable pub carriedAll : ℕ → Block → World → List Planned → World
+carriedAll from parent w [] = w
+carriedAll from parent w (e ∷ es) = carriedAll from parent (carriedBy from parent w (e .block) (e .fate)) es
+
+-- both
+unfoldable pub committed : World → Front → List Planned → World
+committed w f es =
+    carriedAll (w .state .taken) (f .block) (worldOf (takenState (w .state) f) (w .ring) (markedAll (w .state .picture) (w .cells) es)) es

@@ -1,0 +1,58 @@
+-- The children of the front block, listed for the evaluator before it answers (added). Its refusals are a step's "8 for the record", 13 and "8 for the block", the last
+-- without its clause on cells, since no cells are lent.
+use mathlib.Core.Bool.{Bool, cond}
+use mathlib.Core.List.{List, []}
+use Prim.Native.Nat.{ℕ}
+use lib.Dec.{ltb}
+use lib.ListN.{length}
+use Rattle.refusal.specs.declared.Refusal.{Refusal}
+use Rattle.refusal.specs.declared.Refusal.the-variants as R
+use Rattle.queue.specs.declared.Block.{Block}
+use Rattle.queue.specs.declared.Taken.{Taken}
+use Rattle.queue.specs.declared.Taken.the-variants as T
+use Rattle.queue.specs.Block.{wholeLine}
+use Rattle.queue.specs.Queue.{taken}
+use Rattle.decide.specs.declared.Picture.{Picture}
+use Rattle.decide.specs.Damage.{undamaged}
+use Rattle.decide.specs.Children.{childrenOf, listed}
+use Rattle.implicit.specs.declared.state.State.{State}
+use Rattle.implicit.specs.declared.state.Drawn.the-variants as D
+use Rattle.implicit.specs.declared.state.Listed.{Listed}
+use Rattle.implicit.specs.Record.{soundRecord}
+
+-- the front block, read from the bytes used and nothing else
+abbrev pub frontOf : State → List ℕ → Taken
+frontOf s ring = taken ring (s .head) (s .used) (s .picture .set) (s .front)
+
+-- a block for the places of an array that holds none
+abbrev pub blankBlock : Block
+blankBlock = record {
+  x = record { index = 0; rank = 0 };
+  y = record { index = 0; rank = 0 };
+  m = wholeLine;
+  n = wholeLine;
+  theta = wholeLine;
+  t = wholeLine;
+  dir = 0;
+}
+
+-- no children, and why
+abbrev pub unlisted : Refusal → Listed
+unlisted why = record { answer = D.Refused why; children = listed blankBlock [] }
+
+-- the children of a block, unless it is damaged
+unfoldable pub listedBlock : Picture → Block → Listed
+listedBlock p b = cond (undamaged p b) (record { answer = D.Done; children = listed b (childrenOf p b) }) (unlisted R.Damaged)
+
+-- the children of the block that was read
+abbrev pub listedFrom : State → Taken → Listed
+listedFrom s T.Damaged = unlisted R.Damaged
+listedFrom s T.Outside = unlisted R.Damaged
+listedFrom s (T.Front b last head used) = listedBlock (s .picture) b
+
+-- THE LISTING
+unfoldable pub childrenListed : State → List ℕ → Listed
+childrenListed s ring =
+    cond (soundRecord (length ring) s)
+    (cond (ltb (s .taken) (s .queued)) (listedFrom s (frontOf s ring)) (unlisted R.Empty))
+    (unlisted R.Damaged)

@@ -1,0 +1,129 @@
+-- Document 01, "Setup", with its refusals "1, 2, 3, 6".
+use mathlib.Core.Bool.{Bool, true, false, cond, not, _&&_, _||_}
+use mathlib.Core.List.{List, [], _∷_, _++_, map}
+use Prim.Native.Nat.{ℕ, zero, suc, _+_, _-_, _*_, _^_, max}
+use lib.Dec.{leb, ltb}
+use lib.ListN.{length}
+use Rattle.refusal.specs.declared.Refusal.{Refusal}
+use Rattle.refusal.specs.declared.Refusal.the-variants as R
+use Rattle.interval.specs.declared.Interval.{Interval}
+use Rattle.interval.specs.Bounds.{legalInterval}
+use Rattle.interval.specs.Cuts.{firstCut}
+use Rattle.image.specs.declared.Op.the-variants as Op
+use Rattle.image.specs.Range.{wholePicture}
+use Rattle.image.specs.Painting.{paintedCells}
+use Rattle.queue.specs.declared.Block.{Block}
+use Rattle.queue.specs.declared.directions.Direction.{Direction}
+use Rattle.queue.specs.declared.directions.Direction.the-variants as D
+use Rattle.queue.specs.Directions.{inUse, parameters}
+use Rattle.queue.specs.Block.{isInteger, parameterOf, withParameter, settledAt, startingLast}
+use Rattle.decide.specs.declared.Picture.{Picture}
+use Rattle.decide.specs.Damage.{legalSide, legalSet}
+use Rattle.implicit.specs.declared.begin.SetupEnd.{SetupEnd}
+use Rattle.implicit.specs.declared.begin.SetupEnd.the-variants as E
+use Rattle.implicit.specs.declared.state.State.{State}
+use Rattle.implicit.specs.declared.state.Ranges.{Ranges}
+use Rattle.implicit.specs.declared.state.Started.{Started}
+use Rattle.implicit.specs.declared.state.Started.the-variants as S
+use Rattle.queue.specs.Ring.{stored}
+use Rattle.queue.specs.Queue as Queue
+use Rattle.implicit.specs.Record.{pixelCount}
+
+-- "level k is the least with 2^k >= the larger side": the least from k on, of n tries
+unfoldable pub leastFrom : ℕ → ℕ → ℕ → ℕ
+leastFrom zero k side = k
+leastFrom (suc n) k side = cond (leb side (2 ^ k)) k (leastFrom n (k + 1) side)
+
+unfoldable pub startLevel : Picture → ℕ
+startLevel p = leastFrom 15 0 (max (p .width) (p .height))
+
+-- "one block (0,0)": a used range with its zeros put, and the whole line for one that is not used
+unfoldable pub rootBlock : Picture → Ranges → Block
+rootBlock p r = record {
+  x = record { index = 0; rank = 48 + startLevel p };
+  y = record { index = 0; rank = 48 + startLevel p };
+  m = settledAt (inUse (p .set) D.M) (r .m);
+  n = settledAt (inUse (p .set) D.N) (r .n);
+  theta = settledAt (inUse (p .set) D.Theta) (r .theta);
+  t = settledAt (inUse (p .set) D.T) (r .t);
+  dir = 0;
+}
+
+-- each block of a list, cut first along a parameter
+unfoldable pub eachCutFirst : Direction → List Block → List Block
+eachCutFirst d [] = []
+eachCutFirst d (b ∷ l) = map (withParameter b d) (firstCut (parameterOf b d) (isInteger d)) ++ eachCutFirst d l
+
+-- "cut first in m, n, n_theta, t where used"
+unfoldable pub cutFirstIn : ℕ → List Direction → List Block → List Block
+cutFirstIn set [] l = l
+cutFirstIn set (d ∷ ds) l = cutFirstIn set ds (cond (inUse set d) (eachCutFirst d l) l)
+
+-- the first blocks, in the order in which they are queued
+unfoldable pub firstBlocks : Picture → Ranges → List Block
+firstBlocks p r = cutFirstIn (p .set) parameters (rootBlock p r ∷ [])
+
+-- 3: "variable set over 63 .. or a used parameter .. isn't legal", the other way round
+abbrev pub usedLegal : ℕ → Direction → Interval → Bool
+usedLegal set d r = not (inUse set d) || legalInterval r (isInteger d)
+
+unfoldable pub rangesLegal : ℕ → Ranges → Bool
+rangesLegal set r =
+    legalSet set && usedLegal set D.M (r .m) && usedLegal set D.N (r .n) && usedLegal set D.Theta (r .theta) && usedLegal set D.T (r .t)
+
+-- the first blocks' codes, from byte 0
+unfoldable pub firstBytes : Picture → Ranges → List ℕ
+firstBytes p r = Queue.queueCodes (p .set) startingLast (firstBlocks p r)
+
+-- "1, 2, 3, 6": the first refusal that applies, if any, to a ring of len bytes and count cells
+unfoldable pub setupRefusal : Picture → Ranges → ℕ → ℕ → SetupEnd
+setupRefusal p r len count =
+    cond (legalSide (p .width) && legalSide (p .height))
+    (cond (leb (pixelCount p) count)
+    (cond (rangesLegal (p .set) r)
+    (cond (leb (length (firstBytes p r)) len) E.Begun (E.Rejected R.Room))
+    (E.Rejected R.Parameter))
+    (E.Rejected R.Cells))
+    (E.Rejected R.Side)
+
+-- the record that an accepted setup leaves
+unfoldable pub startRecord : Picture → Ranges → ℕ → State
+startRecord p r len = record {
+  picture = p;
+  taken = 0;
+  queued = length (firstBlocks p r);
+  len = len;
+  head = 0;
+  used = length (firstBytes p r);
+  front = startingLast;
+  back = Queue.memory startingLast (firstBlocks p r);
+}
+
+-- the ring and the cells that it leaves: "filled from byte 0", "all cells name the last block"
+unfoldable pub startRing : Picture → Ranges → List ℕ → List ℕ
+startRing p r ring = stored ring 0 (firstBytes p r)
+
+unfoldable pub startCells : Picture → Ranges → List ℕ → List ℕ
+startCells p r cells = paintedCells (p .width) (p .height) (wholePicture (p .width) (p .height)) (Op.Fill (length (firstBlocks p r) - 1)) cells
+
+-- a picture of these sides and variables
+abbrev pub pictureOf : ℕ → ℕ → ℕ → Picture
+pictureOf width height set = record { width = width; height = height; set = set }
+
+-- THE SETUP: what it answers, and the ring and the cells afterwards, of which a refusal changes nothing
+abbrev pub startedBy : SetupEnd → State → Started
+startedBy E.Begun s = S.Ready s
+startedBy (E.Rejected why) s = S.Refused why
+
+abbrev pub ifBegun : SetupEnd → List ℕ → List ℕ → List ℕ
+ifBegun E.Begun after before = after
+ifBegun (E.Rejected why) after before = before
+
+unfoldable pub startedAnswer : Picture → Ranges → ℕ → ℕ → Started
+startedAnswer p r len count = startedBy (setupRefusal p r len count) (startRecord p r len)
+
+unfoldable pub ringBegun : Picture → Ranges → List ℕ → List ℕ → List ℕ
+ringBegun p r ring cells = ifBegun (setupRefusal p r (length ring) (length cells)) (startRing p r ring) ring
+
+unfoldable pub cellsBegun : Picture → Ranges → List ℕ → List ℕ → List ℕ
+cellsBegun p r ring cells = ifBegun (setupRefusal p r (length ring) (length cells)) (startCells p r cells) cells

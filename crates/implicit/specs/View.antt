@@ -1,0 +1,74 @@
+-- Document 01, "Numbers of refusal" and "Program and values": the picture and the counts, with their refusals "8, 2, 12 (picture only), 8 for a cell".
+-- Neither has a ring: the record's own ring length is taken as the lent one's.
+use mathlib.Core.Bool.{Bool, cond, not}
+use mathlib.Core.List.{List, map, _++_}
+use Prim.Native.Nat.{ℕ, _+_, _-_, _*_, _/_}
+use lib.Dec.{leb}
+use lib.ListN.{length, drop}
+use Rattle.refusal.specs.declared.Refusal.the-variants as R
+use Rattle.image.specs.declared.Tally.{Tally}
+use Rattle.image.specs.Cell.{isDamaged, reading, byteOf, tallied}
+use Rattle.image.specs.Painting.{someOf}
+use Rattle.implicit.specs.declared.state.State.{State}
+use Rattle.implicit.specs.declared.state.Counts.{Counts}
+use Rattle.implicit.specs.declared.state.Counted.{Counted}
+use Rattle.implicit.specs.declared.state.Counted.the-variants as C
+use Rattle.implicit.specs.declared.state.Drawn.{Drawn}
+use Rattle.implicit.specs.declared.state.Drawn.the-variants as D
+use Rattle.implicit.specs.Record.{pixelCount, pixelCells, soundRecord}
+
+-- "8 for a cell", the other way round
+abbrev pub cellsFine : State → List ℕ → Bool
+cellsFine s cells = not (someOf isDamaged (pixelCells (s .picture) cells))
+
+-- "Picture bytes: False 0, Uncertain 1, True 2", rows from the top
+unfoldable pub pictureBytes : State → List ℕ → List ℕ
+pictureBytes s cells = map (λ c. byteOf (reading (s .taken) c)) (pixelCells (s .picture) cells)
+
+-- the picture buffer afterwards: "bytes beyond stay"
+unfoldable pub pictureLeft : State → List ℕ → List ℕ → List ℕ
+pictureLeft s cells out = pictureBytes s cells ++ drop (pixelCount (s .picture)) out
+
+-- "settled pixels in thousandths rounded to nearest, half up"
+unfoldable pub shareOf : ℕ → ℕ → ℕ
+shareOf settled pixels = (2000 * settled + pixels) / (2 * pixels)
+
+-- what the picture answers, for a buffer of room bytes: the first refusal of "8, 2, 12, 8 for a cell" that applies, if any
+unfoldable pub pictureAnswer : State → List ℕ → ℕ → Drawn
+pictureAnswer s cells room =
+    cond (soundRecord (s .len) s)
+    (cond (leb (pixelCount (s .picture)) (length cells))
+    (cond (leb (pixelCount (s .picture)) room)
+    (cond (cellsFine s cells) D.Done (D.Refused R.Damaged))
+    (D.Refused R.Picture))
+    (D.Refused R.Cells))
+    (D.Refused R.Damaged)
+
+-- what the buffer then holds: "nothing lent changes" by a refusal
+abbrev pub ifDrawn : Drawn → List ℕ → List ℕ → List ℕ
+ifDrawn D.Done after before = after
+ifDrawn (D.Refused why) after before = before
+
+-- the counts: "pixels by reading, given-up cells (also counted as uncertain), queued blocks, settled pixels in thousandths", from a tally
+unfoldable pub countsFrom : State → Tally → Counts
+countsFrom s t = record {
+  trues = t .trues;
+  falses = t .falses;
+  uncertain = t .uncertain;
+  givenup = t .givenup;
+  queued = s .queued - s .taken;
+  share = shareOf (t .trues + t .falses) (pixelCount (s .picture));
+}
+
+-- of the pixels' cells
+abbrev pub countsOf : State → List ℕ → Counts
+countsOf s cells = countsFrom s (tallied (s .taken) (pixelCells (s .picture) cells))
+
+-- what the counts answer: the first refusal of "8, 2, 8 for a cell" that applies, or the counts of the pixels
+unfoldable pub countsAnswer : State → List ℕ → Counted
+countsAnswer s cells =
+    cond (soundRecord (s .len) s)
+    (cond (leb (pixelCount (s .picture)) (length cells))
+    (cond (cellsFine s cells) (C.Of (countsOf s cells)) (C.Refused R.Damaged))
+    (C.Refused R.Cells))
+    (C.Refused R.Damaged)

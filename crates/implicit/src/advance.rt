@@ -1,0 +1,405 @@
+// The step: take, decide, commit. From the Rust's `refine_impl`. All refusals are known before the first write; `commit` is the only writer.
+ghost use mathlib.Core.Path.{_≡_};
+ghost use mathlib.Core.Bool.{true};
+ghost use Prim.Native.Nat.{_+_, _^_, _≤_};
+ghost use lib.Dec.{leb};
+ghost use lib.ListN.{length, take};
+ghost use Rattle.decide.specs.Children.{childrenOf};
+ghost use Rattle.decide.specs.Plan.{planOf};
+ghost use Rattle.image.specs.Cell.{meanings};
+ghost use Rattle.implicit.specs.Record.{pixelCount};
+ghost use Rattle.implicit.specs.Step.{worldOf, blockFine, enoughVerdicts, judged, opened, stepWith, stepOf, tapeStepOf, EndsAs};
+ghost use Rattle.implicit.specs.ByChild.{opening, Begun, blockCheck, withCode, sizedBy, sizedAll, sizeOf, planCheck, paintedBlock, markedBy, markedAll, takenState, numbered, withQueued, carriedBy, carriedAll, committed};
+ghost use Rattle.queue.specs.Queue.{measured};
+use crate::record::is_sound;
+use crate::record::pixel_count;
+use crate::record::put_last;
+use crate::state::State;
+use crate::state::Stepped;
+use decide::Picture;
+use decide::children::children_of;
+use decide::damage::has_damaged_cell;
+use decide::damage::is_undamaged;
+use decide::plan::Fate;
+use decide::plan::Plan;
+use decide::plan::Planned;
+use decide::plan::plan_step;
+use image::Op;
+use image::Seen;
+use queue::Appended;
+use queue::Block;
+use queue::Last;
+use queue::Measured;
+use queue::Taken;
+use refusal::Refusal;
+
+// The front block, what is remembered of it, and the head and the use once it is taken.
+struct Front {
+    block: Block,
+    last: Last,
+    head: usize,
+    used: usize,
+}
+
+// The front block, or why there is none to go on with.
+enum Opened {
+    At(Front),
+    Refused(Refusal),
+}
+
+// How a check went.
+enum Check {
+    Passed,
+    Refused(Refusal),
+}
+
+// The bytes of the children measured so far, and what is remembered of the last of them.
+struct Size {
+    total: usize,
+    last: Last,
+}
+
+// One step, with a verdict for each child of the front block.
+pub fn step(s: State, ring: &mut [u8], cells: &mut [u64], verdicts: &[u8]) -> Stepped
+    ensures { λ r. ⌜ EndsAs (worldOf s (now (ring .entry)) (now (cells .entry))) (stepOf (worldOf s (now (ring .entry)) (now (cells .entry))) (now (verdicts .entry))) r (now (ring .exit)) (now (cells .exit)) ⌝ }
+{
+    advance(s, ring, cells, verdicts, false)
+}
+
+// One step of a run: verdicts beyond those that it takes stay for the next.
+pub(crate) fn step_on_tape(s: State, ring: &mut [u8], cells: &mut [u64], tape: &[u8]) -> Stepped
+    ensures { λ r. ⌜ EndsAs (worldOf s (now (ring .entry)) (now (cells .entry))) (tapeStepOf (worldOf s (now (ring .entry)) (now (cells .entry))) (now (tape .entry))) r (now (ring .exit)) (now (cells .exit)) ⌝ }
+{
+    advance(s, ring, cells, tape, true)
+}
+
+fn advance(s: State, ring: &mut [u8], cells: &mut [u64], verdicts: &[u8], tape: bool) -> Stepped
+    ensures { λ r. ⌜ EndsAs (worldOf s (now (ring .entry)) (now (cells .entry))) (stepWith tape (worldOf s (now (ring .entry)) (now (cells .entry))) (now (verdicts .entry))) r (now (ring .exit)) (now (cells .exit)) ⌝ }
+{
+    match take_front(s, ring, cells.len()) {
+        Opened::Refused(why) => Stepped::Refused { why, state: s },
+        Opened::At(front) => take_block(s, ring, cells, verdicts, tape, front),
+    }
+}
+
+// TAKE
+
+// The front block out of the ring; nothing changes.
+fn take_front(s: State, ring: &[u8], cells: usize) -> Opened
+    ensures { λ r. ⌜ r ≡ opening s (now (ring .entry)) cells ⌝ }
+{
+    if !is_sound(ring.len(), s) {
+        return Opened::Refused(Refusal::Damaged);
+    }
+    if cells < pixel_count(s.picture) {
+        return Opened::Refused(Refusal::Cells);
+    }
+    if s.queued <= s.taken {
+        return Opened::Refused(Refusal::Empty);
+    }
+    let p = s.picture;
+    match queue::take(ring, s.head, s.used, p.set, s.front) {
+        Taken::Front {
+            block,
+            last,
+            head,
+            used,
+        } => Opened::At(Front {
+            block,
+            last,
+            head,
+            used,
+        }),
+        Taken::Damaged => Opened::Refused(Refusal::Damaged),
+        Taken::Outside => Opened::Refused(Refusal::Damaged),
+    }
+}
+
+// DECIDE
+
+// The step on a block that was read.
+fn take_block(
+    s: State,
+    ring: &mut [u8],
+    cells: &mut [u64],
+    verdicts: &[u8],
+    tape: bool,
+    front: Front,
+) -> Stepped
+    requires { ⌜ Begun s (now ring) (now cells) front ⌝ }
+    ensures { λ r. ⌜ EndsAs (worldOf s (now (ring .entry)) (now (cells .entry))) (stepWith tape (worldOf s (now (ring .entry)) (now (cells .entry))) (now (verdicts .entry))) r (now (ring .exit)) (now (cells .exit)) ⌝ }
+{
+    let count = count_children(s.picture, front.block);
+    match check_block(s.picture, front.block, cells, count, verdicts.len(), tape) {
+        Check::Refused(why) => Stepped::Refused { why, state: s },
+        Check::Passed => judge(s, ring, cells, &verdicts[0..count], front),
+    }
+}
+
+// How many children a block has.
+fn count_children(p: Picture, b: Block) -> usize
+    ensures { λ r. ⌜ r ≡ length (childrenOf p b) ⌝ }
+{
+    let kids = children_of(p, b);
+    kids.count
+}
+
+fn check_block(
+    p: Picture,
+    b: Block,
+    cells: &[u64],
+    children: usize,
+    verdicts: usize,
+    tape: bool,
+) -> Check
+    requires { ⌜ leb (pixelCount p) (length (now cells)) ≡ true ⌝ }
+    ensures { λ r. ⌜ r ≡ blockCheck p b (now (cells .entry)) children verdicts tape ⌝ }
+{
+    if !is_fine(p, b, cells) {
+        return Check::Refused(Refusal::Damaged);
+    }
+    if !has_enough(tape, children, verdicts) {
+        return Check::Refused(Refusal::Verdicts);
+    }
+    Check::Passed
+}
+
+// Whether neither the block nor a cell that it covers is damaged.
+fn is_fine(p: Picture, b: Block, cells: &[u64]) -> bool
+    requires { ⌜ leb (pixelCount p) (length (now cells)) ≡ true ⌝ }
+    ensures { λ r. ⌜ r ≡ blockFine p (now (cells .entry)) b ⌝ }
+{
+    match has_damaged_cell(p, b, cells) {
+        Seen::Yes => false,
+        Seen::No => is_undamaged(p, b),
+        Seen::Outside => false,
+    }
+}
+
+fn has_enough(tape: bool, children: usize, verdicts: usize) -> bool
+    ensures { λ r. ⌜ r ≡ enoughVerdicts tape children verdicts ⌝ }
+{
+    if tape {
+        children <= verdicts
+    } else {
+        verdicts == children
+    }
+}
+
+// The step with a verdict for each child.
+fn judge(s: State, ring: &mut [u8], cells: &mut [u64], verdicts: &[u8], front: Front) -> Stepped
+    requires { ⌜ Begun s (now ring) (now cells) front × (blockFine (s .picture) (now cells) (front .block) ≡ true) ⌝ }
+    ensures { λ r. ⌜ EndsAs (worldOf s (now (ring .entry)) (now (cells .entry))) (judged (worldOf s (now (ring .entry)) (now (cells .entry))) (front .block) (front .last) (front .head) (front .used) (now (verdicts .entry))) r (now (ring .exit)) (now (cells .exit)) ⌝ }
+{
+    let plan = plan_step(s.picture, front.block, verdicts, cells);
+    match check_plan(s, ring.len(), front.used, plan) {
+        Check::Refused(why) => Stepped::Refused { why, state: s },
+        Check::Passed => {
+            let state = commit(s, ring, cells, front, plan);
+            Stepped::Finished {
+                state,
+                evaluations: plan.evaluations,
+                verdicts: plan.count,
+            }
+        }
+    }
+}
+
+// The verdicts' legality, the numbers of the new blocks, and the room for them behind the bytes used.
+fn check_plan(s: State, len: usize, used: usize, plan: Plan) -> Check
+    requires { ⌜ (s .queued ≤ 2 ^ 32) × (plan .queued ≤ 4) × (used ≤ len) × (length (plan .at) ≡ 4) ⌝ }
+    ensures { λ r. ⌜ r ≡ planCheck s len used plan ⌝ }
+{
+    if !plan.legal {
+        return Check::Refused(Refusal::Verdict);
+    }
+    if 4294967296 < s.queued + plan.queued as u64 {
+        return Check::Refused(Refusal::Numbers);
+    }
+    let p = s.picture;
+    if len - used < size_of(p.set, put_last(s.back), plan) {
+        return Check::Refused(Refusal::Room);
+    }
+    Check::Passed
+}
+
+// The bytes of all children that are queued, each coded against the one before.
+fn size_of(set: u8, back: Last, plan: Plan) -> usize
+    requires { ⌜ length (plan .at) ≡ 4 ⌝ }
+    ensures { λ r. ⌜ r ≡ sizeOf set back (plan .at) ⌝ }
+{
+    let at = plan.at;
+    let mut z = Size {
+        total: 0,
+        last: back,
+    };
+    for i in 0..4 {
+        let e = at[i];
+        z = add_child(set, z, e);
+    }
+    z.total
+}
+
+fn add_child(set: u8, z: Size, e: Planned) -> Size
+    requires { ⌜ z .total ≤ 1000 ⌝ }
+    ensures { λ r. ⌜ (r ≡ sizedBy set z (e .block) (e .fate)) × (r .total ≤ z .total + 83) ⌝ }
+{
+    let fate = e.fate;
+    match fate {
+        Fate::Nothing => z,
+        Fate::Mark => z,
+        Fate::Queue => add_code(set, z, e.block),
+        Fate::GiveUp => z,
+    }
+}
+
+fn add_code(set: u8, z: Size, b: Block) -> Size
+    requires { ⌜ z .total ≤ 1000 ⌝ }
+    ensures { λ r. ⌜ (r ≡ withCode z (measured set (z .last) b)) × (r .total ≤ z .total + 83) ⌝ }
+{
+    match queue::measure(set, z.last, b) {
+        Measured::Bytes { count, last } => Size {
+            total: z.total + count,
+            last,
+        },
+        Measured::NotCodable => z,
+    }
+}
+
+// COMMIT
+
+// Carries the plan out: the cells' marks in order, then the children that are queued or find no direction, in order.
+fn commit(s: State, ring: &mut [u8], cells: &mut [u64], front: Front, plan: Plan) -> State
+    requires { ⌜ (s .queued ≤ 2 ^ 32) × (s .taken ≤ 2 ^ 32) × (length (plan .at) ≡ 4) ⌝ }
+    ensures { λ r. ⌜ worldOf r (now (ring .exit)) (now (cells .exit)) ≡ committed (worldOf s (now (ring .entry)) (now (cells .entry))) front (plan .at) ⌝ }
+{
+    mark_children(s.picture, cells, plan);
+    let next = with_front_taken(s, front);
+    carry_children(next, ring, cells, s.taken, front.block, plan)
+}
+
+fn mark_children(p: Picture, cells: &mut [u64], plan: Plan)
+    requires { ⌜ length (plan .at) ≡ 4 ⌝ }
+    ensures { λ _. ⌜ now (cells .exit) ≡ markedAll p (now (cells .entry)) (plan .at) ⌝ }
+{
+    let at = plan.at;
+    for i in 0..4 {
+        let e = at[i];
+        mark_child(p, cells, e);
+    }
+}
+
+fn mark_child(p: Picture, cells: &mut [u64], e: Planned) -> bool
+    ensures { λ _. ⌜ now (cells .exit) ≡ markedBy p (now (cells .entry)) (e .block) (e .fate) ⌝ }
+{
+    let fate = e.fate;
+    match fate {
+        Fate::Nothing => false,
+        Fate::Mark => paint_block(p, cells, e.block, Op::Mark),
+        Fate::Queue => false,
+        Fate::GiveUp => false,
+    }
+}
+
+// Changes every cell that the block covers.
+fn paint_block(p: Picture, cells: &mut [u64], b: Block, op: Op) -> bool
+    ensures { λ _. ⌜ now (cells .exit) ≡ paintedBlock p b op (now (cells .entry)) ⌝ }
+{
+    let r = image::rectangle(b.x, b.y, p.width, p.height);
+    image::paint(cells, p.width, p.height, r, op)
+}
+
+// The record once the front block is taken, with all that it remembers put.
+fn with_front_taken(s: State, front: Front) -> State
+    requires { ⌜ s .taken ≤ 2 ^ 32 ⌝ }
+    ensures { λ r. ⌜ r ≡ takenState s front ⌝ }
+{
+    let picture = s.picture;
+    let last = front.last;
+    State {
+        picture,
+        taken: s.taken + 1,
+        queued: s.queued,
+        len: s.len,
+        head: front.head,
+        used: front.used,
+        front: last,
+        back: put_last(s.back),
+    }
+}
+
+// Cells that name block `from` or a later one name what is queued over them.
+fn carry_children(
+    s: State,
+    ring: &mut [u8],
+    cells: &mut [u64],
+    from: u64,
+    parent: Block,
+    plan: Plan,
+) -> State
+    requires { ⌜ (s .queued ≤ 2 ^ 32) × (length (plan .at) ≡ 4) ⌝ }
+    ensures { λ r. ⌜ worldOf r (now (ring .exit)) (now (cells .exit)) ≡ carriedAll from parent (worldOf s (now (ring .entry)) (now (cells .entry))) (plan .at) ⌝ }
+{
+    let at = plan.at;
+    let mut next = s;
+    for i in 0..4 {
+        let e = at[i];
+        next = carry_child(next, ring, cells, from, parent, e);
+    }
+    next
+}
+
+fn carry_child(
+    s: State,
+    ring: &mut [u8],
+    cells: &mut [u64],
+    from: u64,
+    parent: Block,
+    e: Planned,
+) -> State
+    requires { ⌜ s .queued ≤ 2 ^ 33 ⌝ }
+    ensures { λ r. ⌜ (worldOf r (now (ring .exit)) (now (cells .exit)) ≡ carriedBy from parent (worldOf s (now (ring .entry)) (now (cells .entry))) (e .block) (e .fate)) × (r .queued ≤ s .queued + 1) ⌝ }
+{
+    let fate = e.fate;
+    match fate {
+        Fate::Nothing => s,
+        Fate::Mark => s,
+        Fate::Queue => queue_child(s, ring, cells, from, e.block),
+        Fate::GiveUp => give_up(s, cells, parent),
+    }
+}
+
+// All cells of the parent, True ones too.
+fn give_up(s: State, cells: &mut [u64], parent: Block) -> State
+    ensures { λ r. ⌜ (r ≡ s) × (now (cells .exit) ≡ paintedBlock (s .picture) parent Op.GiveUp (now (cells .entry))) ⌝ }
+{
+    paint_block(s.picture, cells, parent, Op::GiveUp);
+    s
+}
+
+fn queue_child(s: State, ring: &mut [u8], cells: &mut [u64], from: u64, b: Block) -> State
+    requires { ⌜ s .queued ≤ 2 ^ 33 ⌝ }
+    ensures { λ r. ⌜ (worldOf r (now (ring .exit)) (now (cells .exit)) ≡ withQueued from b (worldOf s (now (ring .entry)) (now (cells .entry)))) × (r .queued ≤ s .queued + 1) ⌝ }
+{
+    let p = s.picture;
+    match queue::append(ring, s.head, s.used, p.set, s.back, b) {
+        Appended::Done { last, used } => name_child(s, cells, from, b, last, used),
+        Appended::NoRoom => s,
+        Appended::NotCodable => s,
+        Appended::Outside => s,
+    }
+}
+
+// The child has the next number.
+fn name_child(s: State, cells: &mut [u64], from: u64, b: Block, last: Last, used: usize) -> State
+    requires { ⌜ s .queued ≤ 2 ^ 33 ⌝ }
+    ensures { λ r. ⌜ (r ≡ numbered s last used) × (now (cells .exit) ≡ paintedBlock (s .picture) b (Op.Name from (s .queued)) (now (cells .entry))) ⌝ }
+{
+    let name = Op::Name { from, to: s.queued };
+    paint_block(s.picture, cells, b, name);
+    let mut r = s;
+    r.queued = s.queued + 1;
+    r.used = used;
+    r.back = last;
+    r
+}

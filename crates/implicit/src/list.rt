@@ -1,0 +1,95 @@
+// The children of the front block, which an evaluator asks for before it answers. Added: the Rust evaluates inside the step.
+ghost use mathlib.Core.Path.{_≡_};
+ghost use mathlib.Core.List.{[]};
+ghost use Rattle.decide.specs.Children.{listed};
+ghost use Rattle.implicit.specs.Listing.{frontOf, blankBlock, unlisted, listedBlock, listedFrom, childrenListed};
+use crate::record::is_sound;
+use crate::state::Drawn;
+use crate::state::Listed;
+use crate::state::State;
+use coordinate::Coordinate;
+use decide::Picture;
+use decide::children::Children;
+use decide::children::children_of;
+use decide::damage::is_undamaged;
+use queue::Block;
+use queue::Taken;
+use queue::kept::whole_line;
+use refusal::Refusal;
+
+// The children of the front block, in order; what it reads is the bytes used.
+pub fn children(s: State, ring: &[u8]) -> Listed
+    ensures { λ r. ⌜ r ≡ childrenListed s (now (ring .entry)) ⌝ }
+{
+    if !is_sound(ring.len(), s) {
+        return refuse(Refusal::Damaged);
+    }
+    if s.queued <= s.taken {
+        return refuse(Refusal::Empty);
+    }
+    list_front(s, ring)
+}
+
+fn list_front(s: State, ring: &[u8]) -> Listed
+    ensures { λ r. ⌜ r ≡ listedFrom s (frontOf s (now (ring .entry))) ⌝ }
+{
+    let p = s.picture;
+    match queue::take(ring, s.head, s.used, p.set, s.front) {
+        Taken::Front {
+            block,
+            last: _,
+            head: _,
+            used: _,
+        } => list_block(p, block),
+        Taken::Damaged => refuse(Refusal::Damaged),
+        Taken::Outside => refuse(Refusal::Damaged),
+    }
+}
+
+fn list_block(p: Picture, b: Block) -> Listed
+    ensures { λ r. ⌜ r ≡ listedBlock p b ⌝ }
+{
+    if is_undamaged(p, b) {
+        return Listed {
+            answer: Drawn::Done,
+            children: children_of(p, b),
+        };
+    }
+    refuse(Refusal::Damaged)
+}
+
+// No children, and why.
+fn refuse(why: Refusal) -> Listed
+    ensures { λ r. ⌜ r ≡ unlisted why ⌝ }
+{
+    Listed {
+        answer: Drawn::Refused(why),
+        children: no_children(),
+    }
+}
+
+fn no_children() -> Children
+    ensures { λ r. ⌜ r ≡ listed blankBlock [] ⌝ }
+{
+    let b = blank_block();
+    Children {
+        at: [b, b, b, b],
+        count: 0,
+    }
+}
+
+fn blank_block() -> Block
+    ensures { λ r. ⌜ r ≡ blankBlock ⌝ }
+{
+    let c = Coordinate { index: 0, rank: 0 };
+    let all = whole_line();
+    Block {
+        x: c,
+        y: c,
+        m: all,
+        n: all,
+        theta: all,
+        t: all,
+        dir: 0,
+    }
+}

@@ -1,0 +1,77 @@
+// The record's own tests, and what it says of the pixels and of the queue.
+// Document 01, "Numbers of refusal", "Record damage"; the Rust's state is private and has no such tests.
+ghost use mathlib.Core.Path.{_≡_};
+ghost use Rattle.implicit.specs.Record.{pixelCount, soundLast, soundCounts, soundRing, soundUse, soundRecord, queueEmpty, putLast};
+use crate::state::State;
+use decide::Picture;
+use decide::damage::is_legal_picture;
+use queue::Last;
+
+// Whether a record is not damaged, for a ring of so many bytes.
+pub(crate) fn is_sound(len: usize, s: State) -> bool
+    ensures { λ r. ⌜ r ≡ soundRecord len s ⌝ }
+{
+    is_legal_picture(s.picture)
+        & has_sound_counts(s)
+        & has_sound_ring(len, s)
+        & has_sound_use(s)
+        & is_sound_last(s.front)
+        & is_sound_last(s.back)
+}
+
+fn has_sound_counts(s: State) -> bool
+    ensures { λ r. ⌜ r ≡ soundCounts s ⌝ }
+{
+    (s.taken <= s.queued) & (s.queued <= 4294967296)
+}
+
+fn has_sound_ring(len: usize, s: State) -> bool
+    ensures { λ r. ⌜ r ≡ soundRing len s ⌝ }
+{
+    (s.len == len) & (s.head < len) & (s.used <= len)
+}
+
+fn has_sound_use(s: State) -> bool
+    ensures { λ r. ⌜ r ≡ soundUse s ⌝ }
+{
+    (s.used == 0) == (s.taken == s.queued)
+}
+
+fn is_sound_last(l: Last) -> bool
+    ensures { λ r. ⌜ r ≡ soundLast l ⌝ }
+{
+    (l.x < 140737488355328)
+        & (l.y < 140737488355328)
+        & interval::is_legal(l.m, true)
+        & interval::is_legal(l.n, true)
+        & interval::is_legal(l.theta, true)
+        & interval::is_legal(l.t, false)
+}
+
+// How many pixels a picture has.
+pub(crate) fn pixel_count(p: Picture) -> usize
+    ensures { λ r. ⌜ r ≡ pixelCount p ⌝ }
+{
+    p.width as usize * p.height as usize
+}
+
+// Whether no block and no byte is left.
+pub(crate) fn is_empty(s: State) -> bool
+    ensures { λ r. ⌜ r ≡ queueEmpty s ⌝ }
+{
+    (s.taken == s.queued) & (s.used == 0)
+}
+
+// The remembered values with their zeros put.
+pub(crate) fn put_last(l: Last) -> Last
+    ensures { λ r. ⌜ r ≡ putLast l ⌝ }
+{
+    Last {
+        x: l.x,
+        y: l.y,
+        m: interval::put(l.m),
+        n: interval::put(l.n),
+        theta: interval::put(l.theta),
+        t: interval::put(l.t),
+    }
+}
