@@ -1,0 +1,197 @@
+//! Plays the original refinement, and compares engines with it. See ../README.md.
+//! Built with the option `port` the second engine is the one behind the C interface, else document 01's own.
+#![allow(unexpected_cfgs)]
+
+#[cfg(port)]
+mod abi;
+mod blocks;
+mod damaged;
+mod document;
+mod engine;
+mod exact;
+mod faulty;
+mod leaves;
+mod list;
+mod lockstep;
+mod odd;
+mod original;
+mod play;
+mod player;
+#[cfg(port)]
+mod port;
+mod random;
+mod record;
+mod setups;
+mod vectors;
+mod worked;
+
+use engine::Maker;
+use oracle::relation::Manner;
+use original::OriginalMaker;
+use std::{fmt::Debug, fs, process::exit, time::Instant};
+
+const USAGE: &str = "driver worked
+driver vectors FILE
+driver replay FILE
+driver leaves SEED COUNT
+driver exhaustive SIDE DEPTH
+driver random SEED CASES STEPS
+driver long SEED CASES STEPS
+driver odd SEED CASES STEPS
+driver damaged SEED CASES
+driver signs SEED CASES STEPS
+driver torn SEED CASES STEPS
+driver faults SEED
+driver record SEED CASES STEPS FILE
+driver record-all SIDE FILE";
+
+/// The first engine.
+const FIRST: OriginalMaker = OriginalMaker(Manner::Zero);
+
+/// The second engine, and its leaves.
+#[cfg(port)]
+const SECOND: port::PortMaker = port::PortMaker;
+#[cfg(port)]
+const SECOND_LEAVES: port::PortLeaves = port::PortLeaves;
+
+#[cfg(not(port))]
+const SECOND: document::DocumentMaker = document::DocumentMaker;
+#[cfg(not(port))]
+const SECOND_LEAVES: exact::Paper = exact::Paper;
+
+/// Prints a series' figures and its first differences, and tells how many there are.
+fn report(name: &str, start: Instant, figures: String, differences: &[impl Debug]) -> usize {
+    for difference in differences.iter().take(5) {
+        println!("DIFFERENCE {difference:#?}");
+    }
+    println!("{name}: {figures}, {} differences ({:.1} s)", differences.len(), start.elapsed().as_secs_f64());
+    differences.len()
+}
+
+fn report_series(name: &str, start: Instant, series: &play::Series) -> usize {
+    let r = &series.reached;
+    let numbers = (1..15).filter(|&n| r.refusals[n] > 0);
+    let refusals = numbers.map(|n| format!(" {n}:{}", r.refusals[n])).collect::<String>();
+    let figures = format!(
+        "{} cases, {} steps, {} children, {} evaluations, refusals{refusals}, ended {} done {} limit, \
+         {} pixels given up, lowest level {}, longest queue {}",
+        series.cases, r.steps, r.children, r.evaluations, r.done, r.limit, r.given_up, r.lowest_level, r.most_queued
+    );
+    report(name, start, figures, &series.differences)
+}
+
+fn worked(start: Instant, name: &str, maker: &impl Maker, leaves: &impl leaves::Leaves) -> usize {
+    let seen = worked::check(maker, leaves);
+    report(&format!("worked, {name} engine"), start, format!("{} values", seen.values), &seen.differences)
+}
+
+fn vectors(start: Instant, name: &str, maker: &impl Maker, text: &str) -> usize {
+    let seen = vectors::replay(maker, text);
+    let figures = format!("{} cases, {} steps, {} lines", seen.cases, seen.steps, seen.lines);
+    report(&format!("vectors, {name} engine"), start, figures, &seen.differences)
+}
+
+fn replay(start: Instant, name: &str, maker: &impl Maker, text: &str) -> usize {
+    let list::Replayed { cases, steps, refusals, left_out, differences } = list::replay(maker, text);
+    let figures = format!("{cases} cases, {steps} steps, {refusals} refusals, {left_out} lines left out");
+    report(&format!("replay, {name} engine"), start, figures, &differences)
+}
+
+fn leaves(start: Instant, seed: u64, count: u64) -> usize {
+    let seen = leaves::ask(&leaves::OriginalLeaves, &SECOND_LEAVES, seed, count);
+    let leaves::Asked { intervals, numbers, coordinates, differences } = seen;
+    let figures = format!("{intervals} intervals, {numbers} numbers, {coordinates} coordinates");
+    report("leaves", start, figures, &differences)
+}
+
+/// Every aspect spoiled in turn, which the comparison must notice and name. Answers how often it did not.
+fn faults(start: Instant, seed: u64) -> usize {
+    let mut missed = vec![];
+    let all = || faulty::ASPECTS.into_iter().flat_map(|aspect| [0, 1, 7].map(|good_steps| (aspect, good_steps)));
+    for (aspect, good_steps) in all() {
+        let wrong = faulty::FaultyMaker { maker: FIRST, aspect, good_steps };
+        let series = play::random_cases(&FIRST, &wrong, seed, 40, 60);
+        let named = series.differences.iter().filter(|d| d.aspect == aspect).count();
+        if named == 0 || named < series.differences.len() {
+            missed.push((aspect, good_steps, named, series.differences));
+        }
+    }
+    let (all, missed_count) = (all().count(), missed.len());
+    report("faults", start, format!("{all} put in, {} noticed and named", all - missed_count), &missed)
+}
+
+/// Writes a list that has been made in memory.
+fn save(what: String, out: Vec<u8>, file: &str) -> usize {
+    fs::write(file, &out).unwrap_or_else(|error| stop(&format!("{file}: {error}")));
+    println!("{what}, {} bytes", out.len());
+    0
+}
+
+fn record(seed: u64, cases: u64, steps: u64, file: &str) -> usize {
+    let mut out = vec![];
+    record::record(&FIRST, seed, cases, steps, &mut out).expect("a list in memory");
+    save(format!("record: seed {seed}, {cases} cases of up to {steps} calls"), out, file)
+}
+
+fn record_all(side: u64, file: &str) -> usize {
+    let mut out = vec![];
+    record::record_all(&FIRST, side as u32, &mut out).expect("a list in memory");
+    save(format!("record-all: sides 1 to {side}"), out, file)
+}
+
+fn stop(why: &str) -> ! {
+    eprintln!("{why}");
+    exit(2)
+}
+
+fn read(file: &str) -> String {
+    fs::read_to_string(file).unwrap_or_else(|error| stop(&format!("{file}: {error}")))
+}
+
+fn number(text: &str) -> u64 {
+    text.parse().unwrap_or_else(|_| stop(&format!("not a number: {text}")))
+}
+
+fn main() {
+    let words: Vec<String> = std::env::args().skip(1).collect();
+    let words: Vec<&str> = words.iter().map(String::as_str).collect();
+    let start = Instant::now();
+    let found = match words[..] {
+        ["worked"] => {
+            worked(start, "first", &FIRST, &leaves::OriginalLeaves) + worked(start, "second", &SECOND, &SECOND_LEAVES)
+        }
+        ["vectors", file] => {
+            let text = read(file);
+            vectors(start, "first", &FIRST, &text) + vectors(start, "second", &SECOND, &text)
+        }
+        ["replay", file] => {
+            let text = read(file);
+            replay(start, "first", &FIRST, &text) + replay(start, "second", &SECOND, &text)
+        }
+        ["leaves", seed, count] => leaves(start, number(seed), number(count)),
+        ["faults", seed] => faults(start, number(seed)),
+        ["record", seed, cases, steps, file] => record(number(seed), number(cases), number(steps), file),
+        ["record-all", side, file] => record_all(number(side), file),
+        ["exhaustive", side, depth] => {
+            let series = play::exhaustive(&FIRST, &SECOND, number(side) as u32, number(depth) as u32);
+            report_series("exhaustive", start, &series)
+        }
+        ["damaged", seed, cases] => {
+            let series = damaged::cases(&document::DocumentMaker, &SECOND, number(seed), number(cases));
+            report_series("damaged", start, &series)
+        }
+        [name @ ("random" | "long" | "odd" | "signs" | "torn"), seed, cases, steps] => {
+            let (seed, cases, steps) = (number(seed), number(cases), number(steps));
+            let series = match name {
+                "random" => play::random_cases(&FIRST, &SECOND, seed, cases, steps),
+                "long" => play::long_cases(&FIRST, &SECOND, seed, cases, steps),
+                "odd" => odd::cases(&FIRST, &SECOND, seed, cases, steps),
+                "signs" => play::random_cases(&FIRST, &OriginalMaker(Manner::Signs), seed, cases, steps),
+                _ => play::random_cases(&FIRST, &OriginalMaker(Manner::Torn), seed, cases, steps),
+            };
+            report_series(name, start, &series)
+        }
+        _ => stop(USAGE),
+    };
+    exit((found > 0) as i32)
+}

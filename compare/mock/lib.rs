@@ -1,0 +1,237 @@
+//! The original behind the C interface: a library to try the comparison's own side of that interface with, and an
+//! example of what every function owes. It keeps nothing between calls; each call takes the picture up from its
+//! record, ring and cells, and refuses by the few rules of `driver/original.rs`.
+
+#[path = "../driver/abi.rs"]
+mod abi;
+#[path = "../driver/engine.rs"]
+#[allow(dead_code)]
+mod engine;
+#[path = "../driver/original.rs"]
+#[allow(dead_code)]
+mod original;
+
+use engine::*;
+use oracle::{leaf, relation::Manner};
+use original::{Original, OriginalMaker};
+use std::slice::{from_raw_parts, from_raw_parts_mut};
+
+const MAKER: OriginalMaker = OriginalMaker(Manner::Torn);
+
+fn interval((lower, upper): Bounds) -> abi::Interval {
+    abi::Interval { lower, upper }
+}
+
+fn bounds(x: abi::Interval) -> Bounds {
+    (x.lower, x.upper)
+}
+
+fn record(s: &abi::State) -> Record {
+    let last = |l: &abi::Last| Last { x: l.x, y: l.y, parameters: [l.m, l.n, l.theta, l.t].map(bounds) };
+    let abi::Picture { width, height, set } = s.picture;
+    let (front, back) = (last(&s.front), last(&s.back));
+    Record { width, height, set, taken: s.taken, queued: s.queued, len: s.len, head: s.head, used: s.used, front, back }
+}
+
+fn state(r: &Record) -> abi::State {
+    let last = |l: &Last| {
+        let [m, n, theta, t] = l.parameters.map(interval);
+        abi::Last { x: l.x, y: l.y, m, n, theta, t }
+    };
+    let picture = abi::Picture { width: r.width, height: r.height, set: r.set };
+    let (front, back) = (last(&r.front), last(&r.back));
+    abi::State { picture, taken: r.taken, queued: r.queued, len: r.len, head: r.head, used: r.used, front, back }
+}
+
+fn taken_up(s: &abi::State, ring: &[u8], cells: &[u64]) -> Original {
+    MAKER.resume(&record(s), ring.to_vec(), cells.to_vec())
+}
+
+/// Copies what an engine left into the lent memory.
+fn left(engine: &Original, ring: &mut [u8], cells: &mut [u64]) -> abi::State {
+    ring.copy_from_slice(engine.ring());
+    cells.copy_from_slice(engine.cells());
+    state(&engine.record())
+}
+
+#[no_mangle]
+pub unsafe extern "C" fn smyrilox_setup(
+    width: u32,
+    height: u32,
+    set: u8,
+    m: abi::Interval,
+    n: abi::Interval,
+    theta: abi::Interval,
+    t: abi::Interval,
+    ring: *mut u8,
+    ring_len: usize,
+    cells: *mut u64,
+    cells_len: usize,
+) -> abi::Started {
+    let (ring, cells) = (from_raw_parts_mut(ring, ring_len), from_raw_parts_mut(cells, cells_len));
+    let setup = Setup { width, height, set, parameters: [m, n, theta, t].map(bounds) };
+    match MAKER.setup(&setup, ring.to_vec(), cells.to_vec()) {
+        Err(refusal) => abi::Started { refusal: refusal as u64, ..Default::default() },
+        Ok(engine) => abi::Started { refusal: 0, state: left(&engine, ring, cells) },
+    }
+}
+
+#[no_mangle]
+pub unsafe extern "C" fn smyrilox_children(state: abi::State, ring: *const u8, ring_len: usize) -> abi::Listed {
+    let cells = vec![0; state.picture.width as usize * state.picture.height as usize];
+    let engine = taken_up(&state, from_raw_parts(ring, ring_len), &cells);
+    let mut listed = abi::Listed::default();
+    match engine.children() {
+        Err(refusal) => listed.refusal = refusal as u64,
+        Ok(children) => {
+            listed.count = children.len();
+            for (block, child) in listed.at.iter_mut().zip(&children) {
+                let [m, n, theta, t] = child.parameters.map(interval);
+                let at = |index| abi::Coordinate { index, rank: (child.level + 48) as u8 };
+                *block = abi::Block { x: at(child.x), y: at(child.y), m, n, theta, t, dir: 0 };
+            }
+        }
+    }
+    listed
+}
+
+#[no_mangle]
+pub unsafe extern "C" fn smyrilox_step(
+    state: abi::State,
+    ring: *mut u8,
+    ring_len: usize,
+    cells: *mut u64,
+    cells_len: usize,
+    verdicts: *const u8,
+    verdicts_len: usize,
+) -> abi::Stepped {
+    let (ring, cells) = (from_raw_parts_mut(ring, ring_len), from_raw_parts_mut(cells, cells_len));
+    let mut engine = taken_up(&state, ring, cells);
+    match engine.step(from_raw_parts(verdicts, verdicts_len)) {
+        Err(refusal) => abi::Stepped { refusal: refusal as u64, state, ..Default::default() },
+        Ok(done) => {
+            let Stepped { evaluations, tape } = done;
+            abi::Stepped { refusal: 0, evaluations, tape, state: left(&engine, ring, cells) }
+        }
+    }
+}
+
+#[no_mangle]
+pub unsafe extern "C" fn smyrilox_run(
+    state: abi::State,
+    ring: *mut u8,
+    ring_len: usize,
+    cells: *mut u64,
+    cells_len: usize,
+    tape: *const u8,
+    tape_len: usize,
+    budget: u32,
+) -> abi::Ran {
+    let (ring, cells) = (from_raw_parts_mut(ring, ring_len), from_raw_parts_mut(cells, cells_len));
+    let mut engine = taken_up(&state, ring, cells);
+    let ran = engine.run(from_raw_parts(tape, tape_len), budget).expect("a run on a sound record");
+    let (ending, stop) = match ran.end {
+        RunEnd::Done => (0, 0),
+        RunEnd::Limit => (1, 0),
+        RunEnd::More => (2, 0),
+        RunEnd::Stop(number) => (3, number as u64),
+    };
+    let state = left(&engine, ring, cells);
+    abi::Ran { refusal: 0, ending, stop, steps: ran.steps, evaluations: ran.evaluations, tape: ran.tape, state }
+}
+
+#[no_mangle]
+pub unsafe extern "C" fn smyrilox_picture(
+    state: abi::State,
+    cells: *const u64,
+    cells_len: usize,
+    picture: *mut u8,
+    picture_len: usize,
+) -> u64 {
+    // A picture is read off the record's counts and the cells: any ring will do.
+    let bare = abi::State { len: 1, head: 0, used: 0, ..state };
+    let engine = taken_up(&bare, &[0], from_raw_parts(cells, cells_len));
+    engine.picture(from_raw_parts_mut(picture, picture_len)).err().unwrap_or(0) as u64
+}
+
+#[no_mangle]
+pub unsafe extern "C" fn smyrilox_counts(state: abi::State, cells: *const u64, cells_len: usize) -> abi::Counted {
+    let bare = abi::State { len: 1, head: 0, used: 0, ..state };
+    let engine = taken_up(&bare, &[0], from_raw_parts(cells, cells_len));
+    let Counts { yes, no, uncertain, given_up, queued, share } = engine.counts().expect("counts of a sound record");
+    abi::Counted { refusal: 0, yes, no, uncertain, givenup: given_up, queued, share }
+}
+
+fn point(value: f64) -> abi::Point {
+    abi::Point { refusal: 0, value }
+}
+
+fn number(value: u64) -> abi::Number {
+    abi::Number { refusal: 0, value }
+}
+
+fn pieces(found: Vec<Bounds>) -> abi::Pieces {
+    let at = std::array::from_fn(|i| found.get(i).map_or(abi::Interval::default(), |&x| interval(x)));
+    abi::Pieces { refusal: 0, count: found.len(), at }
+}
+
+#[no_mangle]
+pub extern "C" fn smyrilox_midpoint(x: abi::Interval) -> abi::Point {
+    point(leaf::midpoint(bounds(x)))
+}
+
+#[no_mangle]
+pub extern "C" fn smyrilox_simple_fraction(x: abi::Interval) -> abi::Point {
+    point(leaf::simple_fraction(bounds(x)))
+}
+
+#[no_mangle]
+pub extern "C" fn smyrilox_subdivision_point(x: abi::Interval, integer: bool) -> abi::Point {
+    point(leaf::subdivision_point(bounds(x), integer))
+}
+
+#[no_mangle]
+pub extern "C" fn smyrilox_is_subdivisible(x: abi::Interval, integer: bool) -> abi::Number {
+    number(leaf::is_subdivisible(bounds(x), integer) as u64)
+}
+
+#[no_mangle]
+pub extern "C" fn smyrilox_first_cut(x: abi::Interval, integer: bool) -> abi::Pieces {
+    pieces(leaf::subdivide0(bounds(x), integer))
+}
+
+#[no_mangle]
+pub extern "C" fn smyrilox_later_cut(x: abi::Interval, integer: bool) -> abi::Pieces {
+    pieces(leaf::subdivide1(bounds(x), integer))
+}
+
+#[no_mangle]
+pub extern "C" fn smyrilox_write_small(x: u64) -> abi::Code {
+    let code = leaf::write_small(x, 0);
+    let mut tail = [0; 8];
+    tail[..code.len() - 1].copy_from_slice(&code[1..]);
+    abi::Code { refusal: 0, head: code[0], tail: u64::from_le_bytes(tail), count: code.len() as u8 - 1 }
+}
+
+#[no_mangle]
+pub unsafe extern "C" fn smyrilox_read_small(bytes: *const u8, bytes_len: usize) -> abi::Read {
+    let (value, length) = leaf::read_small(from_raw_parts(bytes, bytes_len), 0);
+    abi::Read { refusal: 0, value, length }
+}
+
+#[no_mangle]
+pub extern "C" fn smyrilox_pixel_index(c: abi::Coordinate) -> abi::Number {
+    number(leaf::pixel_index(c.index, c.rank as i8 - 48) as u64)
+}
+
+#[no_mangle]
+pub extern "C" fn smyrilox_halves(c: abi::Coordinate) -> abi::Halves {
+    let ([low, high], level) = leaf::halves(c.index, c.rank as i8 - 48);
+    let at = |index| abi::Coordinate { index, rank: (level + 48) as u8 };
+    abi::Halves { refusal: 0, low: at(low), high: at(high) }
+}
+
+#[no_mangle]
+pub extern "C" fn smyrilox_is_halvable(c: abi::Coordinate) -> abi::Number {
+    number(leaf::is_subdivisible_coordinate(c.index, c.rank as i8 - 48) as u64)
+}
