@@ -6,6 +6,8 @@ pub mod SetupLawsFirst
 pub mod SetupLawsBlocks
 pub mod SetupLawsWriting
 pub mod SetupLawsRefusal
+pub mod SetupLawsQueueing
+pub mod SetupLawsStart
 pub mod StepLawsKept
 pub mod StepLawsByChild
 pub mod StepLawsCode

@@ -285,3 +285,77 @@ fn refuse(p: Picture, ranges: Ranges, len: usize, count: usize) -> SetupEnd
     }
     SetupEnd::Begun
 }
+
+// A block's code written behind the bytes used, from byte 0 on.
+fn queue_behind(ring: &mut [u8], set: u8, k: Behind, b: Block) -> Behind
+    requires { ⌜ (codable set (k .back) b ≡ true) × (settled set b ≡ b) × (fitsRing (length (now ring)) 0 (k .used) ≡ true) × (k .used + length (encode set (k .back) b) ≤ length (now ring)) ⌝ }
+    ensures { λ r. ⌜ (r ≡ behindWith set k b) × (now (ring .exit) ≡ storedBehind (now (ring .entry)) 0 (k .used) (encode set (k .back) b)) ⌝ }
+{
+    match queue::append(ring, 0, k.used, set, k.back, b) {
+        Appended::Done { last, used } => Behind { back: last, used },
+        Appended::NoRoom => k,
+        Appended::NotCodable => k,
+        Appended::Outside => k,
+    }
+}
+
+// The first blocks queued, in order.
+fn queue_first(p: Picture, ranges: Ranges, ring: &mut [u8]) -> Behind
+    requires { ⌜ (rangesLegal (p .set) ranges ≡ true) × (length (firstBytes p ranges) ≤ length (now ring)) ⌝ }
+    ensures { λ r. ⌜ (r ≡ behindFirst p ranges) × (now (ring .exit) ≡ startRing p ranges (now (ring .entry))) ⌝ }
+{
+    let f = product_of(p, ranges);
+    let n = product_count(f);
+    let mut k = Behind {
+        back: starting_last(),
+        used: 0,
+    };
+    for i in 0..n {
+        k = queue_behind(ring, p.set, k, product_at(f, i));
+    }
+    k
+}
+
+// The first blocks queued, every pixel's cell naming the last of them, and the record.
+fn begin(p: Picture, ranges: Ranges, ring: &mut [u8], cells: &mut [u64]) -> State
+    requires { ⌜ setupRefusal p ranges (length (now ring)) (length (now cells)) ≡ SetupEnd.Begun ⌝ }
+    ensures { λ r. ⌜ r ≡ startRecord p ranges (length (now (ring .entry))) ⌝ }
+    ensures { λ r. ⌜ now (ring .exit) ≡ startRing p ranges (now (ring .entry)) ⌝ }
+    ensures { λ r. ⌜ now (cells .exit) ≡ startCells p ranges (now (cells .entry)) ⌝ }
+{
+    let k = queue_first(p, ranges, ring);
+    let queued = product_count(product_of(p, ranges)) as u64;
+    let all = image::whole(p.width, p.height);
+    image::paint(cells, p.width, p.height, all, Op::Fill { to: queued - 1 });
+    let back = k.back;
+    State {
+        picture: p,
+        taken: 0,
+        queued,
+        len: ring.len(),
+        head: 0,
+        used: k.used,
+        front: starting_last(),
+        back,
+    }
+}
+
+// Begins a picture: refused by 1, 2, 3 or 6 it writes nothing.
+pub fn setup(
+    width: u32,
+    height: u32,
+    set: u8,
+    ranges: Ranges,
+    ring: &mut [u8],
+    cells: &mut [u64],
+) -> Started
+    ensures { λ r. ⌜ r ≡ startedAnswer (pictureOf width height set) ranges (length (now (ring .entry))) (length (now (cells .entry))) ⌝ }
+    ensures { λ r. ⌜ now (ring .exit) ≡ ringBegun (pictureOf width height set) ranges (now (ring .entry)) (now (cells .entry)) ⌝ }
+    ensures { λ r. ⌜ now (cells .exit) ≡ cellsBegun (pictureOf width height set) ranges (now (ring .entry)) (now (cells .entry)) ⌝ }
+{
+    let p = Picture { width, height, set };
+    match refuse(p, ranges, ring.len(), cells.len()) {
+        SetupEnd::Begun => Started::Ready(begin(p, ranges, ring, cells)),
+        SetupEnd::Rejected(why) => Started::Refused(why),
+    }
+}
