@@ -1,7 +1,7 @@
 #!/usr/bin/env python3
 """Writes `stdin` (the cases) and `stdout` (what the program has to print of them) beside this file.
 
-The answers are worked out pixel by pixel from document 01's words, with exact fractions and no formula of the crate `image`:
+The answers are worked out pixel by pixel from document 01's words, with exact fractions; only the place of a pixel in the buffer, (height - 1 - y) * width + x, is the same formula as the crate's:
 a block covers a pixel where the stretch from i*2^k to (i+1)*2^k overlaps the pixel's on both axes, y counts from the bottom, rows are
 stored from the top. An empty stretch is put at the side's end.
 
