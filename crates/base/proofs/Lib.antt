@@ -1,3 +1,4 @@
 -- Laws that every crate shares.
 pub mod Test
 pub mod BytesLaws
+pub mod AxisLaws

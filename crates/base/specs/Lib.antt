@@ -1,3 +1,4 @@
 -- Definitions that every crate shares.
 pub mod Bytes
 pub mod Event
+pub mod Axis

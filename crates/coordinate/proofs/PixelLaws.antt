@@ -1,27 +1,35 @@
 -- Laws of a coordinate's pixel, of the places along a side and of the ranges, each over every rank. Assumes nothing.
-use mathlib.Core.Path.{_≡_, sym, ap, _∙_}
+use mathlib.Core.Path.{_≡_, refl, sym, ap, _∙_}
 use mathlib.Core.Bool.{true, _&&_}
-use mathlib.Core.Logic.{_↔_}
 use Prim.Native.Nat.{ℕ, zero, suc, _+_, _-_, _*_, _/_, _^_, _≤_, _<_}
-use native.Mathlib.Nat.{div-one, mul-one, pow-suc, mul-assoc, div-div-eq-div-mul, add-mul-div-right, le-div-iff-mul-le, div-lt-iff-lt-mul, mul-lt-mul-of-pos-right, lt-of-mul-lt-mul-right, mul-le-mul-right}
+use native.Mathlib.Nat.{pow-suc, le-div-iff-mul-le, mul-le-mul-right}
 use native.Mathlib.Decide.{decLe}
 use native.Mathlib.Omega.{arith}
 use lib.Dec.{leb, ltb}
 use lib.IntN.{pos, negsuc}
 use lib.Pow.{pow-pos, pow-mono, pow-add, shl-lt, shr-le}
 use borrow.Author.Tests.{ltb-true, leb-true, lt-ltb, le-ltb, le-leb}
+use Rattle.base.specs.Axis.{beginsIn, coversAlong, placesAlong}
 use Rattle.base.proofs.Test.{cond-yes, cond-no, and-left, and-right, and-both, both-ways}
-use Rattle.coordinate.specs.Axis.{level, inRange, pixelAtLevel, pixel, places, inside}
+use Rattle.base.proofs.AxisLaws.{begins-over, begins-under, counted-begins, places-over, places-under}
+use Rattle.base.proofs.AxisLaws as Axis
+use Rattle.coordinate.specs.Axis.{level, inRange, pixelAtLevel, pixel, places, inside, covers1}
+
+-- the definitions are those of base's Axis, where the pixel's level stands as the rank 48: so base's laws are theirs
+pub axis-at-48 : (side rank i p : ℕ)
+    → (pixel rank i ≡ beginsIn 48 rank i) × (places side rank ≡ placesAlong (side * 2 ^ 48) rank) × (covers1 rank i p ≡ coversAlong 48 rank i p)
+unfolding pixel beginsIn places placesAlong covers1 coversAlong
+axis-at-48 side rank i p = (refl, refl, refl)
 
 -- from the pixel's rank up, the index times 2^k
 pub pixel-big : (rank i : ℕ) → 48 ≤ rank → pixel rank i ≡ i * 2 ^ (rank - 48)
-unfolding pixel
-pixel-big rank i h = let z : 48 - rank ≡ 0 = omega arith in rw z (div-one (i * 2 ^ (rank - 48)))
+unfolding pixel beginsIn
+pixel-big rank i h = begins-over 48 rank i h
 
 -- from it down, the index over 2^(-k)
 pub pixel-small : (rank i : ℕ) → rank ≤ 48 → pixel rank i ≡ i / 2 ^ (48 - rank)
-unfolding pixel
-pixel-small rank i h = let z : rank - 48 ≡ 0 = omega arith in rw (z, mul-one i)
+unfolding pixel beginsIn
+pixel-small rank i h = begins-under 48 rank i h
 
 -- the one formula is the document's two
 pub pixel-level : (rank i : ℕ) → pixel rank i ≡ pixelAtLevel (level rank) i
@@ -31,102 +39,30 @@ pixel-level rank i = elim (decLe 48 rank) [
       pixel-small rank i (omega arith) ∙ ap (λ (n : ℕ). i / 2 ^ n) e ∙ sym (ap (λ z. pixelAtLevel z i) (cond-yes (ltb rank 48) (negsuc (48 - suc rank)) (pos (rank - 48)) (lt-ltb rank 48 (omega arith)))))
 ]
 
--- an index is below the number of places exactly if it begins before the side's end
-pub places-in : (side rank i : ℕ) → (i < places side rank) ↔ (i * 2 ^ rank < side * 2 ^ 48)
-unfolding places
-places-in side rank i =
-    let h : zero < 2 ^ rank = pow-pos rank in (
-      (λ k. (let r = le-div-iff-mul-le {k = 2 ^ rank} {x = suc i} {y = side * 2 ^ 48 + (2 ^ rank - 1)} h .0 k in omega arith)),
-      (λ k. le-div-iff-mul-le {k = 2 ^ rank} {x = suc i} {y = side * 2 ^ 48 + (2 ^ rank - 1)} h .1 (omega arith)),
-    )
-
-split-big : (rank i : ℕ) → 48 ≤ rank → i * 2 ^ rank ≡ i * 2 ^ (rank - 48) * 2 ^ 48
-split-big rank i h =
-    let e : rank ≡ (rank - 48) + 48 = omega arith in
-    ap (λ (m : ℕ). i * 2 ^ m) e ∙ ap (λ (m : ℕ). i * m) (pow-add 2 (rank - 48) 48) ∙ sym (mul-assoc i (2 ^ (rank - 48)) (2 ^ 48))
-
-split-small : (rank side : ℕ) → rank ≤ 48 → side * 2 ^ 48 ≡ side * 2 ^ (48 - rank) * 2 ^ rank
-split-small rank side h =
-    let e : 48 ≡ (48 - rank) + rank = omega arith in
-    ap (λ (m : ℕ). side * 2 ^ m) e ∙ ap (λ (m : ℕ). side * m) (pow-add 2 (48 - rank) rank) ∙ sym (mul-assoc side (2 ^ (48 - rank)) (2 ^ rank))
-
--- two counts with the same members are equal
-same-count : (a b : ℕ) → ((i : ℕ) → (i < a) ↔ (i < b)) → a ≡ b
-same-count a b h =
-    let p : ¬ (a < b) = (λ k. (let r = h a .1 k in omega arith)) in
-    let q : ¬ (b < a) = (λ k. (let r = h b .0 k in omega arith)) in
-    omega arith
-
--- "beginning inside", by the pixel and by the places: two ways to say the same
-pub begins : (side rank i : ℕ) → (pixel rank i < side) ↔ (i < places side rank)
-begins side rank i = ((λ l. places-in side rank i .1 (to l)), (λ l. from (places-in side rank i .0 l)))
-  where
-    to : pixel rank i < side → i * 2 ^ rank < side * 2 ^ 48
-    to l = elim (decLe 48 rank) [
-      | yes k ↦ (rw (split-big rank i k) (mul-lt-mul-of-pos-right (rw (pixel-big rank i k) at l) (pow-pos 48)))
-      | no k ↦ (let q : rank ≤ 48 = omega arith in rw (split-small rank side q) (mul-lt-mul-of-pos-right (div-lt-iff-lt-mul (pow-pos (48 - rank)) .0 (rw (pixel-small rank i q) at l)) (pow-pos rank)))
-    ]
-
-    from : i * 2 ^ rank < side * 2 ^ 48 → pixel rank i < side
-    from l = elim (decLe 48 rank) [
-      | yes k ↦ rw (pixel-big rank i k) (lt-of-mul-lt-mul-right (2 ^ 48) (rw (split-big rank i k) at l))
-      | no k ↦ (let q : rank ≤ 48 = omega arith in rw (pixel-small rank i q) (div-lt-iff-lt-mul (pow-pos (48 - rank)) .1 (lt-of-mul-lt-mul-right (2 ^ rank) (rw (split-small rank side q) at l))))
-    ]
-
+-- "beginning inside", by the places and by the pixel: two ways to say the same
 pub inside-pixel : (side rank i : ℕ) → inside side rank i ≡ ltb (pixel rank i) side
-unfolding inside
-inside-pixel side rank i =
-    both-ways (ltb i (places side rank)) (ltb (pixel rank i) side)
-    (λ e. lt-ltb (pixel rank i) side (begins side rank i .1 (ltb-true i (places side rank) e)))
-    (λ e. lt-ltb i (places side rank) (begins side rank i .0 (ltb-true (pixel rank i) side e)))
+unfolding inside places placesAlong pixel beginsIn
+inside-pixel side rank i = counted-begins 48 side rank i
 
 -- from the pixel's rank up there are side / 2^k places, rounded up
 pub places-big : (side rank : ℕ) → 48 ≤ rank → places side rank ≡ (side + (2 ^ (rank - 48) - 1)) / 2 ^ (rank - 48)
-places-big side rank h = same-count (places side rank) ((side + (2 ^ (rank - 48) - 1)) / 2 ^ (rank - 48)) (λ i. (there i, back i))
-  where
-    d : ℕ
-    d = 2 ^ (rank - 48)
-
-    p : zero < 2 ^ (rank - 48)
-    p = pow-pos (rank - 48)
-
-    there : (i : ℕ) → i < places side rank → i < (side + (2 ^ (rank - 48) - 1)) / 2 ^ (rank - 48)
-    there i k =
-        let r : i * 2 ^ (rank - 48) < side = rw (pixel-big rank i h) at (begins side rank i .1 k) in
-        le-div-iff-mul-le {k = 2 ^ (rank - 48)} {x = suc i} {y = side + (2 ^ (rank - 48) - 1)} p .1 (omega (arith, p))
-
-    back : (i : ℕ) → i < (side + (2 ^ (rank - 48) - 1)) / 2 ^ (rank - 48) → i < places side rank
-    back i k =
-        let r = le-div-iff-mul-le {k = 2 ^ (rank - 48)} {x = suc i} {y = side + (2 ^ (rank - 48) - 1)} p .0 k in
-        begins side rank i .0 (rw (pixel-big rank i h) (omega (arith, p)))
+unfolding places placesAlong
+places-big side rank h = let e : 48 + (rank - 48) ≡ rank = omega arith in rw e at (places-over side 48 (rank - 48))
 
 -- from it down, side times 2^(-k)
 pub places-small : (side rank : ℕ) → rank ≤ 48 → places side rank ≡ side * 2 ^ (48 - rank)
-places-small side rank h = same-count (places side rank) (side * 2 ^ (48 - rank)) (λ i. (there i, back i))
-  where
-    there : (i : ℕ) → i < places side rank → i < side * 2 ^ (48 - rank)
-    there i k = div-lt-iff-lt-mul (pow-pos (48 - rank)) .0 (rw (pixel-small rank i h) at (begins side rank i .1 k))
-
-    back : (i : ℕ) → i < side * 2 ^ (48 - rank) → i < places side rank
-    back i k = begins side rank i .0 (rw (pixel-small rank i h) (div-lt-iff-lt-mul (pow-pos (48 - rank)) .1 k))
+unfolding places placesAlong
+places-small side rank h = let e : rank + (48 - rank) ≡ 48 = omega arith in rw e at (places-under side rank (48 - rank))
 
 -- a level up there are half as many places, rounded up
 pub places-suc : (side rank : ℕ) → places side (suc rank) ≡ (places side rank + 1) / 2
-unfolding places
-places-suc side rank =
-    let h : zero < 2 ^ rank = pow-pos rank in
-    let e : side * 2 ^ 48 + (2 ^ suc rank - 1) ≡ side * 2 ^ 48 + (2 ^ rank - 1) + 1 * 2 ^ rank = omega (arith, pow-suc 2 rank) in
-    rw (e, pow-suc 2 rank, ← div-div-eq-div-mul (side * 2 ^ 48 + (2 ^ rank - 1) + 1 * 2 ^ rank) (2 ^ rank) 2, add-mul-div-right (side * 2 ^ 48 + (2 ^ rank - 1)) 1 {z = 2 ^ rank} h)
+unfolding places placesAlong
+places-suc side rank = Axis.places-suc (side * 2 ^ 48) rank
 
 -- where 2^k holds the whole side there is one place
 pub places-one : (side k : ℕ) → zero < side → side ≤ 2 ^ k → places side (48 + k) ≡ 1
-places-one side k h l =
-    let e : 48 + k - 48 ≡ k = omega arith in
-    let p : pixel (48 + k) 0 ≡ 0 = pixel-big (48 + k) 0 (omega arith) ∙ omega arith in
-    let q : pixel (48 + k) 1 ≡ 2 ^ k = pixel-big (48 + k) 1 (omega arith) ∙ rw e (omega arith) in
-    let a = begins side (48 + k) 0 .0 (omega arith) in
-    let b : ¬ (1 < places side (48 + k)) = (λ m. (let r = begins side (48 + k) 1 .1 m in omega arith)) in
-    omega arith
+unfolding places placesAlong
+places-one side k h l = places-over side 48 k ∙ Axis.places-one side k h l
 
 -- the low half begins inside exactly if its coordinate does
 pub low-inside : (side rank i : ℕ) → inside side rank (2 * i) ≡ inside side (suc rank) i
@@ -137,14 +73,7 @@ low-inside side rank i =
     (λ t. lt-ltb i (places side (suc rank)) (omega (arith, ltb-true (2 * i) (places side rank) t)))
     (λ t. lt-ltb (2 * i) (places side rank) (omega (arith, ltb-true i (places side (suc rank)) t)))
 
--- the high half only if its coordinate does
-pub high-inside : (side rank i : ℕ) → inside side rank (2 * i + 1) ≡ true → inside side (suc rank) i ≡ true
-unfolding inside
-high-inside side rank i t =
-    let e = places-suc side rank in
-    lt-ltb i (places side (suc rank)) (omega (arith, ltb-true (2 * i + 1) (places side rank) t))
-
--- RANGES
+-- ---- ranges
 
 -- an index that leaves its range begins outside every legal side: both are damage, 8
 pub beyond-bound : (floor rank i : ℕ) → floor ≤ rank → rank < 64 → 2 ^ (63 - floor) ≤ i → 32768 ≤ pixel rank i

@@ -1,6 +1,7 @@
 -- One axis of a picture, on plain numbers: document 01, "Small numbers and coordinates", second paragraph, and what a block covers along it.
 -- A level k stands as its rank, k + 48, and a floor as the rank of its level. A difference that would be negative is 0, so that one formula
--- serves the levels above and below the pixel's: above, 2 ^ (48 - rank) is 1; below, 2 ^ (rank - 48) is.
+-- serves the levels above and below the pixel's: above, 2 ^ (48 - rank) is 1; below, 2 ^ (rank - 48) is. Pixel, places and what is covered are
+-- those of base's Axis with the pixel's level at 48 (proved, `axis-at-48`).
 use mathlib.Core.Bool.{Bool, _&&_}
 use Prim.Native.Nat.{ℕ, suc, _+_, _-_, _*_, _/_, _^_}
 use lib.Dec.{leb, ltb}

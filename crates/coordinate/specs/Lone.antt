@@ -17,10 +17,11 @@ use Rattle.coordinate.specs.Axis.{inRange, pixel, aboveFloor, inside}
 abbrev pub legal : ℕ → Coordinate → Bool
 legal floor c = inRange floor (c .rank) (c .index)
 
--- the halves, one level down
+-- the lower half, one level down
 abbrev pub lowHalf : Coordinate → Coordinate
 lowHalf c = record { index = 2 * (c .index); rank = c .rank - 1 }
 
+-- the upper half
 abbrev pub highHalf : Coordinate → Coordinate
 highHalf c = record { index = 2 * (c .index) + 1; rank = c .rank - 1 }
 

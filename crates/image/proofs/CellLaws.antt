@@ -80,18 +80,6 @@ touched-meaning op n h = meaning-code (doneTo op (meaningOf n)) (done-proper op 
 
 -- WHAT IS DONE TO A CODE
 
-pub touched-mark : (n : ℕ) → touched O.Mark n ≡ trueCode
-unfolding doneTo cellCode
-touched-mark n = refl
-
-pub touched-give-up : (n : ℕ) → touched O.GiveUp n ≡ givenUpCode
-unfolding doneTo cellCode
-touched-give-up n = refl
-
-pub touched-fill : (to n : ℕ) → touched (O.Fill to) n ≡ to
-unfolding doneTo cellCode
-touched-fill to n = refl
-
 pub touched-name : (from to n : ℕ) → touched (O.Name from to) n ≡ cond (leb from n && ltb n trueCode) to n
 unfolding doneTo cellCode
 touched-name from to =

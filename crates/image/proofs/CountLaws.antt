@@ -1,7 +1,7 @@
 -- Laws of what a rectangle's cells show: some of a kind, every one, and the counts; and the turns of the loops. Assumes nothing.
 use mathlib.Core.Path.{_≡_, refl, sym, ap, _∙_}
-use mathlib.Core.Bool.{Bool, true, false, not, cond, _&&_, _||_, true≢false, false≢true}
-use mathlib.Core.List.{List, [], _∷_, _++_, map}
+use mathlib.Core.Bool.{Bool, true, false, not, cond, _&&_, _||_, true≢false, false≢true, or-assoc}
+use mathlib.Core.List.{List, [], _∷_, _++_, map-append}
 use Prim.Native.Nat.{ℕ, zero, suc, _+_, _-_, _*_, _^_, _≤_, _<_}
 use native.Mathlib.Omega.{arith}
 use native.Mathlib.Nat.{zero-add, add-zero, add-assoc}
@@ -29,18 +29,10 @@ use Rattle.image.proofs.RangeLaws.{band, run-held, run-past, run-first,
 
 -- LISTS
 
-map-append : {A B : Type 0} (f : A → B) (l m : List A) → map f (l ++ m) ≡ map f l ++ map f m
-map-append f [] m = refl
-map-append {A} {B} f (c ∷ l) m = ap (λ (r : List B). f c ∷ r) (map-append f l m)
-
 pub some-append : (test : Cell → Bool) (l m : List Cell) → someOf test (l ++ m) ≡ (someOf test l || someOf test m)
 unfolding someOf
 some-append test [] m = refl
-some-append test (c ∷ l) m = rw (some-append test l m) (go (test c) (someOf test l) (someOf test m))
-  where
-    go : (a b c : Bool) → (a || (b || c)) ≡ ((a || b) || c)
-    go true b c = refl
-    go false b c = refl
+some-append test (c ∷ l) m = rw (some-append test l m) (sym (or-assoc (test c) (someOf test l) (someOf test m)))
 
 -- every one passes exactly if none fails
 pub every-some : (test : Cell → Bool) (l : List Cell) → everyOf test l ≡ not (someOf (λ c. not (test c)) l)

@@ -1,6 +1,6 @@
 -- Laws of rectangles: which cells they hold, row by row and pixel by pixel, and what a block's rectangle holds. Assumes nothing.
-use mathlib.Core.Path.{_≡_, refl, sym, ap, ap₂, _∙_}
-use mathlib.Core.Bool.{Bool, true, false, _&&_, _||_, true≢false}
+use mathlib.Core.Path.{_≡_, sym, ap, ap₂, _∙_}
+use mathlib.Core.Bool.{Bool, true, false, _&&_, _||_}
 use Prim.Native.Nat.{ℕ, zero, suc, _+_, _-_, _*_, _/_, _%_, _^_, _≤_, _<_, min}
 use native.Mathlib.Nat.{add-mul, mul-comm, one-mul, mul-le-mul-right, div-add-mod', div-eq-of-lt-le, div-lt-iff-lt-mul, le-div-iff-mul-le, mod-lt}
 use native.Mathlib.Decide.{decLt}
@@ -9,7 +9,7 @@ use lib.Arith.{digits-div, digits-mod}
 use lib.Dec.{leb, ltb}
 use lib.Pow.{pow-pos, pow-mono, shl-exact}
 use borrow.Author.Tests.{ltb-true, leb-true, leb-false, lt-ltb, le-leb}
-use Rattle.base.proofs.Test.{cases, and-left, and-right, and-both, both-ways}
+use Rattle.base.proofs.Test.{cases, and-left, and-right, and-both, both-ways, or-neither}
 use Rattle.coordinate.specs.declared.Coordinate.{Coordinate}
 use Rattle.coordinate.specs.Axis.{pixel, covers1}
 use Rattle.coordinate.proofs.PixelLaws.{pixel-big, pixel-small}
@@ -247,16 +247,12 @@ first-beyond side rank i s h z t =
     let m = mul-le-mul-right {m = 1} {n = i} (2 ^ (rank - 48)) (omega (arith, z)) in
     omega (arith, pow-mono {i = 32} {j = rank - 48} (omega arith)))
 
-neither : (a b : Bool) → (a || b) ≡ false → (a ≡ false) × (b ≡ false)
-neither true b e = absurd (true≢false e)
-neither false b e = (refl, e)
-
 pub rank-bound : (rank i : ℕ) → (leb 4294967296 i || leb 80 rank) ≡ false → rank < 80
-rank-bound rank i t = leb-false 80 rank (neither (leb 4294967296 i) (leb 80 rank) t .1)
+rank-bound rank i t = leb-false 80 rank (or-neither (leb 4294967296 i) (leb 80 rank) t .1)
 
 pub first-left : (side rank i : ℕ) → 48 ≤ rank → (leb 4294967296 i || leb 80 rank) ≡ false → min (i * 2 ^ (rank - 48) % 2 ^ 64) side ≡ firstPixel side rank i
 first-left side rank i h t =
-    let l = leb-false 4294967296 i (neither (leb 4294967296 i) (leb 80 rank) t .0) in
+    let l = leb-false 4294967296 i (or-neither (leb 4294967296 i) (leb 80 rank) t .0) in
     let k = rank-bound rank i t in
     ap (λ (n : ℕ). min n side) (shl-exact 32 (rank - 48) 64 l (omega arith) ∙ sym (pixel-big rank i h))
 

@@ -26,43 +26,48 @@ use Rattle.image.specs.declared.Reading.{Reading}
 use Rattle.image.specs.declared.Reading.the-variants as R
 use Rattle.image.specs.declared.Tally.{Tally}
 
+-- what stands in a cell: the table's four meanings
 pub data Cell : Type 0 where
   Named : ℕ → Cell
   Marked : Cell
   GivenUp : Cell
   Other : ℕ → Cell
 
--- the two codes above the numbers
+-- the code of True, above all numbers of blocks
 abbrev pub trueCode : ℕ
 trueCode = 4294967296
 
+-- the code of what is given up
 abbrev pub givenUpCode : ℕ
 givenUpCode = 4294967297
 
--- from a meaning to its code, and back: the table, read from the top
+-- from a meaning to its code
 unfoldable pub cellCode : Cell → ℕ
 cellCode (Named n) = n
 cellCode Marked = trueCode
 cellCode GivenUp = givenUpCode
 cellCode (Other n) = n
 
+-- and back: the table, read from the top
 unfoldable pub meaningOf : ℕ → Cell
 meaningOf n = cond (ltb n trueCode) (Named n) (cond (eqb n trueCode) Marked (cond (eqb n givenUpCode) GivenUp (Other n)))
 
--- a number that a block can have, and a meaning that a code can have
+-- a number that a block can have
 abbrev pub isNumber : ℕ → Bool
 isNumber n = ltb n trueCode
 
+-- a meaning that a code can have
 unfoldable pub hasCode : Cell → Bool
 hasCode (Named n) = isNumber n
 hasCode Marked = true
 hasCode GivenUp = true
 hasCode (Other n) = ltb givenUpCode n
 
--- the meanings of lent cells, and their codes
+-- the meanings of lent cells
 abbrev pub meanings : List ℕ → List Cell
 meanings l = map meaningOf l
 
+-- the codes of meanings, as they are lent
 abbrev pub codes : List Cell → List ℕ
 codes l = map cellCode l
 
@@ -108,13 +113,14 @@ characterOf R.False = 46
 characterOf R.Uncertain = 63
 characterOf R.True = 35
 
--- which cells are of a kind
+-- is the cell True?
 unfoldable pub isMarked : Cell → Bool
 isMarked (Named n) = false
 isMarked Marked = true
 isMarked GivenUp = false
 isMarked (Other n) = false
 
+-- is it given up?
 unfoldable pub isGivenUp : Cell → Bool
 isGivenUp (Named n) = false
 isGivenUp Marked = false
@@ -128,6 +134,7 @@ isDamaged Marked = false
 isDamaged GivenUp = false
 isDamaged (Other n) = true
 
+-- the cells that are looked for: those that are not True, the given-up ones, the damaged ones
 unfoldable pub ofKind : Kind → Cell → Bool
 ofKind K.Unmarked c = not (isMarked c)
 ofKind K.Abandoned c = isGivenUp c
@@ -138,17 +145,19 @@ unfoldable pub countOf : (Cell → Bool) → List Cell → ℕ
 countOf test [] = 0
 countOf test (c ∷ l) = cond (test c) 1 0 + countOf test l
 
--- which readings are which
+-- is the reading True?
 unfoldable pub isTrue : Reading → Bool
 isTrue R.False = false
 isTrue R.Uncertain = false
 isTrue R.True = true
 
+-- is it False?
 unfoldable pub isFalse : Reading → Bool
 isFalse R.False = true
 isFalse R.Uncertain = false
 isFalse R.True = false
 
+-- is it Uncertain?
 unfoldable pub isUncertain : Reading → Bool
 isUncertain R.False = false
 isUncertain R.Uncertain = true

@@ -44,11 +44,12 @@ paintedCells width height r op l = cond (paintable width height r op (length l))
 unfoldable pub heldCells : ℕ → PixelRange → List Cell → List Cell
 heldCells width r l = keepAt (holdsCell width r) 0 l
 
--- some element passes a test, and every one
+-- some cell of a list passes a test
 unfoldable pub someOf : (Cell → Bool) → List Cell → Bool
 someOf test [] = false
 someOf test (c ∷ l) = test c || someOf test l
 
+-- every one does
 unfoldable pub everyOf : (Cell → Bool) → List Cell → Bool
 everyOf test [] = true
 everyOf test (c ∷ l) = test c && everyOf test l

@@ -37,10 +37,11 @@ pub record ReadyRows (width : ℕ) (r : PixelRange) (n : ℕ) : Type 0 where
 abbrev pub wholePicture : ℕ → ℕ → PixelRange
 wholePicture width height = record { left = 0; right = width; top = 0; bottom = height }
 
--- the first pixel that a coordinate covers along a side, and the one after the last, clipped to the side: the bounds of `covers1`
+-- the first pixel that a coordinate covers along a side, clipped to the side: the lower bound of `covers1`
 abbrev pub firstPixel : ℕ → ℕ → ℕ → ℕ
 firstPixel side rank i = min (pixel rank i) side
 
+-- and the one after the last: its upper bound
 abbrev pub pastPixel : ℕ → ℕ → ℕ → ℕ
 pastPixel side rank i = min (pixel rank i + 2 ^ (rank - 48)) side
 

@@ -1,17 +1,15 @@
 -- The bit patterns of bounds, for whoever stores them: which patterns are a NaN's, that a put legal interval is read back from the
 -- patterns of its bounds (`read-back`), and that no legal lower bound starts with the bytes FF FF (`no-mark`). Assumes nothing.
 use mathlib.Core.Path.{_≡_, refl, sym, ap, _∙_, subst}
-use mathlib.Core.Bool.{Bool, true, false, not, _&&_, _||_, cond, true≢false, false≢true}
+use mathlib.Core.Bool.{Bool, true, false, not, _&&_, _||_, cond, false≢true}
 use Prim.Native.Nat.{ℕ, _*_, _/_, _%_, _^_, _≤_, _<_}
 use native.Mathlib.Omega.{arith}
 use lib.Dec.{T, ltb, eqb, eqb-refl}
 use lib.Ieee.{Float, nan, inf, fin, binary64, up, down, lt, le, eq, ne, isNan, nanBits, toBits, ofBits, fits}
 use lib.Ieee.Bits.{is-true, ofBits-toBits, ofBits-fits, toBits-lt, nanBits-is, nanBits-above}
 use lib.Ieee.Compare.{differs-from-itself}
-use lib.ListN.{getD}
-use Rattle.base.specs.Bytes.{bigEndian}
 use Rattle.refusal.specs.declared.Refusal.the-variants as R
-use Rattle.base.proofs.Test.{≡→T, cond-yes, cond-no}
+use Rattle.base.proofs.Test.{≡→T, cond-yes, cond-no, or-neither}
 use Rattle.interval.specs.declared.Interval.{Interval}
 use Rattle.interval.specs.declared.FromBits.the-variants as B
 use Rattle.interval.specs.Bounds.{wholeBound, legalInterval, putInterval, InFormat}
@@ -76,9 +74,7 @@ nan-illegal a b integer h = go (nanBits binary64 a) (nanBits binary64 b) (nanBit
     go false false p q h = absurd (false≢true h)
 
 pub no-nans : (s t : Bool) → s || t ≡ false → T (not s) × T (not t)
-no-nans true t h = absurd (true≢false h)
-no-nans false true h = absurd (true≢false h)
-no-nans false false h = (tt, tt)
+no-nans s t h = let (p, q) = or-neither s t h in (rw p tt, rw q tt)
 
 -- ---- what the queue keeps
 -- which patterns are a NaN's: those above an infinity's, but for the sign
@@ -122,12 +118,3 @@ below-mark w h e = omega arith
 
 pub no-mark : (x : Interval) (integer : Bool) → InFormat x → legalInterval x integer ≡ true → toBits binary64 (x .lower) / 2 ^ 48 ≡ 0xffff → ⊥
 no-mark x integer f h e = below-mark (toBits binary64 (x .lower)) (pattern (x .lower) (f .0) (lower-number (x .lower) (x .upper) (≡→T (legal-bounds x integer h))) .no-nan) e
-
--- the first two bytes, highest first
-two-bytes : (w : ℕ) → w < 2 ^ 64 → getD (bigEndian 8 w) 0 0 ≡ 255 → getD (bigEndian 8 w) 1 0 ≡ 255 → w / 2 ^ 48 ≡ 0xffff
-unfolding bigEndian
-two-bytes w h a b = omega arith
-
-pub no-mark-bytes : (x : Interval) (integer : Bool) → InFormat x → legalInterval x integer ≡ true
-    → getD (bigEndian 8 (toBits binary64 (x .lower))) 0 0 ≡ 255 → getD (bigEndian 8 (toBits binary64 (x .lower))) 1 0 ≡ 255 → ⊥
-no-mark-bytes x integer f h a b = no-mark x integer f h (two-bytes (toBits binary64 (x .lower)) (bits-fit (x .lower) (f .0)) a b)

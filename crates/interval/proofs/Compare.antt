@@ -1,27 +1,28 @@
 -- The comparisons of two numbers are those of any fractions over one denominator that they equal (`lt-at`, `eq-at`, `le-at`), and so
 -- of their units (`lt-units`). Assumes nothing.
-use mathlib.Core.Path.{_≡_, refl, sym, ap, _∙_, subst}
-use Prim.Native.Nat.{ℕ, zero, suc, _+_, _*_, _^_, _≤_, _<_}
+use mathlib.Core.Path.{_≡_, refl, sym, ap, _∙_}
+use Prim.Native.Nat.{ℕ, zero, suc, _+_, _*_, _^_, _<_}
 use native.Mathlib.Nat.{mul-assoc, mul-comm, mul-right-comm, mul-pos, add-mul, zero-mul, zero-add, eq-of-mul-eq-mul-right}
 use native.Mathlib.Omega.{arith}
-use mathlib.Core.Bool.{Bool, true, false, not, _&&_, _||_, Bool·beq, false≢true}
-use mathlib.Core.Logic.{_⊎_, inl, inr}
+use mathlib.Core.Bool.{Bool, true, false, _&&_, _||_, Bool·beq}
 use lib.IntN.{ℤ}
 use lib.Signed.{ltZ}
-use lib.Dec.{T, ltb, eqb, eqb→eq, ltb→lt, lt→ltb, nltb→le}
+use lib.Dec.{T, ltb, eqb, eqb→eq, ltb→lt, lt→ltb}
 use lib.Pow.{pow-pos}
 use lib.Ieee.{Float, nan, inf, fin, binary64, up, down, below, level, lt, eq, le, fits}
 use lib.Ieee.Fits.{down-pos, eq→eqb}
 use lib.Ieee.Exact.{HasValue}
 use lib.Ieee.Scale.{finite}
+use borrow.Author.Tests.{lt-ltb, le-ltb}
+use Rattle.base.proofs.Test.{same-tests}
 use Rattle.interval.specs.Bounds.{signed, inUnits}
 use Rattle.interval.proofs.Value.{placed}
-use Rattle.interval.proofs.Halving.{ltb-scale, both-ways}
+use Rattle.interval.proofs.Halving.{ltb-scale}
 use Rattle.interval.proofs.HalfSum.{units-of}
 
 eqb-scale : (A B C a b c : ℕ) → 0 < C → 0 < c → A * c ≡ a * C → B * c ≡ b * C → eqb A B ≡ eqb a b
 eqb-scale A B C a b c C+ c+ p q =
-    both-ways (eqb A B) (eqb a b)
+    same-tests (eqb A B) (eqb a b)
     (λ (t : T (eqb A B)). eq→eqb (eq-of-mul-eq-mul-right C C+ a b (sym p ∙ ap (λ (z : ℕ). z * c) (eqb→eq A B t) ∙ q)))
     (λ (t : T (eqb a b)). eq→eqb (eq-of-mul-eq-mul-right c c+ A B (p ∙ ap (λ (z : ℕ). z * C) (eqb→eq a b t) ∙ sym q)))
 
@@ -36,21 +37,6 @@ level-scale : (s : Bool) (A : ℕ) (t : Bool) (B C a b c : ℕ) → 0 < C → 0 
 level-scale s A t B C a b c C+ c+ p q =
     ap (λ (z : Bool). z && (Bool·beq s t || eqb A 0)) (eqb-scale A B C a b c C+ c+ p q)
     ∙ ap (λ (z : Bool). eqb a b && (Bool·beq s t || z)) (eqb-scale A 0 C a 0 c C+ c+ p (zero-mul c ∙ sym (zero-mul C)))
-
--- ---- what a test says
-pub or-true : (a b : Bool) → a || b ≡ true → (a ≡ true) ⊎ (b ≡ true)
-or-true true b h = inl refl
-or-true false b h = inr h
-
-pub and-true : (a b : Bool) → a && b ≡ true → (a ≡ true) × (b ≡ true)
-and-true true b h = (refl, h)
-and-true false b h = absurd (false≢true h)
-
-pub to-lt : (a b : ℕ) → ltb a b ≡ true → a < b
-to-lt a b h = ltb→lt a b (subst T (sym h) tt)
-
-pub to-ge : (a b : ℕ) → ltb a b ≡ false → b ≤ a
-to-ge a b h = nltb→le a b (subst (λ (z : Bool). T (not z)) (sym h) tt)
 
 -- by any fractions over one denominator
 pub lt-at : (x y : Float) (s : Bool) (a : ℕ) (t : Bool) (b c : ℕ) → 0 < c → HasValue x s a c → HasValue y t b c → lt x y ≡ below s a t b
@@ -84,33 +70,16 @@ unfolding le
 le-at x y s a t b c C v w = ap (λ (z : Bool). z || eq x y) (lt-at x y s a t b c C v w) ∙ ap (λ (z : Bool). below s a t b || z) (eq-at x y s a t b c C v w)
 
 -- ---- as integers
-ltb-yes : (a b : ℕ) → a < b → ltb a b ≡ true
-ltb-yes a b h = yes' (ltb a b) (lt→ltb a b h)
-  where
-    yes' : (x : Bool) → T x → x ≡ true
-    yes' true t = refl
-    yes' false t = absurd t
-
-ltb-no : (a b : ℕ) → b ≤ a → ltb a b ≡ false
-ltb-no a b h = no' (ltb a b) (ltb→lt a b)
-  where
-    bad : (a b : ℕ) → b ≤ a → a < b → ⊥
-    bad a b h k = omega arith
-
-    no' : (x : Bool) → (T x → a < b) → x ≡ false
-    no' true t = absurd (bad a b h (t tt))
-    no' false t = refl
-
 pub below-is : (s : Bool) (a : ℕ) (t : Bool) (b : ℕ) → below s a t b ≡ ltZ (signed s a) (signed t b)
 below-is false a false b = refl
-below-is false a true zero = sym (ltb-no a 0 (omega arith))
+below-is false a true zero = sym (le-ltb a 0 (omega arith))
 below-is false a true (suc b) = refl
 below-is true zero false b = ap (λ (z : ℕ). ltb 0 z) (zero-add b)
-below-is true (suc a) false b = ltb-yes 0 (suc a + b) (omega arith)
+below-is true (suc a) false b = lt-ltb 0 (suc a + b) (omega arith)
 below-is true zero true zero = refl
-below-is true zero true (suc b) = ltb-no (suc b) 0 (omega arith)
-below-is true (suc a) true zero = ltb-yes 0 (suc a) (omega arith)
-below-is true (suc a) true (suc b) = both-ways (ltb (suc b) (suc a)) (ltb b a) (λ (t : T (ltb (suc b) (suc a))). lt→ltb b a (down' (ltb→lt (suc b) (suc a) t))) (λ (t : T (ltb b a)). lt→ltb (suc b) (suc a) (up' (ltb→lt b a t)))
+below-is true zero true (suc b) = le-ltb (suc b) 0 (omega arith)
+below-is true (suc a) true zero = lt-ltb 0 (suc a) (omega arith)
+below-is true (suc a) true (suc b) = same-tests (ltb (suc b) (suc a)) (ltb b a) (λ (t : T (ltb (suc b) (suc a))). lt→ltb b a (down' (ltb→lt (suc b) (suc a) t))) (λ (t : T (ltb b a)). lt→ltb (suc b) (suc a) (up' (ltb→lt b a t)))
   where
     down' : suc b < suc a → b < a
     down' h = omega arith

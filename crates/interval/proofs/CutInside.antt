@@ -8,13 +8,15 @@ use native.Mathlib.Omega.{arith}
 use mathlib.Core.Bool.{Bool, true, false, not, cond}
 use lib.IntN.{ℤ, pos, negℤ}
 use lib.Signed.{leZ, ltZ}
-use lib.Dec.{T, ltb, ltb→lt, nltb→le, le→leb, lt→ltb, not-T, lit<}
+use lib.Dec.{T, ltb, nltb→le, le→leb, lit<}
 use lib.Pow.{pow-pos}
 use lib.Ieee.{Float, nan, inf, fin, binary64, round, le, fits}
 use lib.Ieee.Fits.{round-fits}
-use lib.Ieee.Bits.{is-true, is-false}
 use lib.Ieee.Exact.{HasValue, round-exact}
 use lib.Ieee.Scale.{finite}
+use borrow.Author.Tests.{lt-ltb, le-ltb}
+use Rattle.interval.proofs.Naturals.{twice-pos}
+use Rattle.interval.proofs.Zeros.{signed-zero}
 use Rattle.interval.specs.Bounds.{signed, inUnits, plusZero, zeroAs, wholeBound}
 use Rattle.interval.specs.Middle.{rounded, largestFinite}
 use Rattle.interval.specs.Kinds.{largestUnits, cutUpTo}
@@ -104,9 +106,6 @@ below-zero m e p h = subst (λ (z : Float). Good z (fin true m e)) (sym (cut-uni
     more : (X : ℕ) → X ≤ X * 2
     more X = omega arith
 
-    some : (X : ℕ) → 0 < X → 0 < X * 2
-    some X h = omega arith
-
     doubled : X * 2 ≤ largestUnits → HasValue (round binary64 true (X * 2) U) true (X * 2) U
     doubled k = double-value m e p k
 
@@ -116,7 +115,7 @@ below-zero m e p h = subst (λ (z : Float). Good z (fin true m e)) (sym (cut-uni
         (neg-leZ largestUnits X (at-most-max 53 2045 (p .m) (p .j) (p .digits) (p .under))) least-put (λ w. least-whole)
     go false k =
         by-units (fin true m e) true X (p .value) (round binary64 true (X * 2) U) true (X * 2) (doubled (k tt)) (round-fits binary64 true (X * 2) U) (neg-leZ (X * 2) X (more X))
-        (plus-nonzero (round binary64 true (X * 2) U) true (X * 2) U (some X h) (doubled (k tt)))
+        (plus-nonzero (round binary64 true (X * 2) U) true (X * 2) U (twice-pos X h) (doubled (k tt)))
         (λ (w : wholeBound (fin true m e) ≡ true). times-whole (round binary64 true (X * 2) U) true (X / U * 2)
         (subst (λ (z : ℕ). HasValue (round binary64 true (X * 2) U) true z U) (ap (λ (z : ℕ). z * 2) (whole-times true m e X (p .value) w) ∙ mul-right-comm (X / U) U 2) (doubled (k tt))))
 
@@ -126,13 +125,7 @@ at-nought b false v = by-units b false 0 v (fin true 1 (pos 0)) true (2 ^ 1074) 
 
 -- above zero it is 0
 pub up-above : (X : ℕ) → 0 < X → cutUpTo (pos X) ≡ fin false 0 (pos 0)
-up-above X h = ap (λ (z : Bool). cond z (cond (ltZ (pos (X * 2)) (negℤ (pos largestUnits))) (largestFinite true) (rounded (pos (X * 2)) (2 ^ 1074))) (cond (ltb 0 X) (fin false 0 (pos 0)) (fin true 1 (pos 0)))) (no-ltb X) ∙ ap (λ (z : Bool). cond z (fin false 0 (pos 0)) (fin true 1 (pos 0))) (is-true (ltb 0 X) (lt→ltb 0 X h))
-  where
-    bad : (n : ℕ) → n < 0 → ⊥
-    bad n h = omega arith
-
-    no-ltb : (n : ℕ) → ltb n 0 ≡ false
-    no-ltb n = is-false (ltb n 0) (not-T (ltb n 0) (λ (t : T (ltb n 0)). bad n (ltb→lt n 0 t)))
+up-above X h = ap (λ (z : Bool). cond z (cond (ltZ (pos (X * 2)) (negℤ (pos largestUnits))) (largestFinite true) (rounded (pos (X * 2)) (2 ^ 1074))) (cond (ltb 0 X) (fin false 0 (pos 0)) (fin true 1 (pos 0)))) (le-ltb X 0 (omega arith)) ∙ ap (λ (z : Bool). cond z (fin false 0 (pos 0)) (fin true 1 (pos 0))) (lt-ltb 0 X h)
 
 above-zero : (b : Float) (X : ℕ) → 0 < X → HasValue b false X (2 ^ 1074) → Good (cutUpTo (pos X)) b
 above-zero b X h v =
@@ -144,10 +137,6 @@ up-to-good nan f g = absurd g
 up-to-good (inf s) f g = absurd g
 up-to-good (fin s m e) f g = go s (placed binary64 s m e f)
   where
-    signed-zero : (s : Bool) → signed s 0 ≡ pos 0
-    signed-zero true = refl
-    signed-zero false = refl
-
     none : (s : Bool) (p : Placed binary64 s (fin s m e)) → p .m * 2 ^ p .j ≡ 0 → Good (cutUpTo (signed s (p .m * 2 ^ p .j))) (fin s m e)
     none s p z = subst (λ (y : ℤ). Good (cutUpTo y) (fin s m e)) (sym (ap (signed s) z ∙ signed-zero s)) (at-nought (fin s m e) s (subst (λ (y : ℕ). HasValue (fin s m e) s y (2 ^ 1074)) z (p .value)))
 

@@ -9,17 +9,19 @@ use lib.IntN.{ℤ, pos, negsuc, negℤ, natAbs, _*ℤ_, _+ℤ_, negℤ-negℤ}
 use lib.Signed.{ltZ}
 use lib.Dec.{T, ltb, eqb, ltb→lt, lt→ltb, nltb→le, not-T, lit<}
 use lib.Pow.{pow-pos}
-use lib.Ieee.{Float, nan, inf, fin, Format, binary64, unlike, up, down, odd, units, round, mul, neg, lt, le, ofBits, fits}
+use lib.Ieee.{Float, nan, inf, fin, Format, binary64, up, down, odd, units, round, mul, neg, lt, le, ofBits, fits}
 use lib.Ieee.Fits.{down-pos}
 use lib.Ieee.Exact.{HasValue, round-exact}
 use lib.Ieee.Order.{drop, kept, round-mono}
 use lib.Ieee.Scale.{grid, overflow, round-same}
 use lib.Ieee.Scale.{finite}
+use Rattle.base.proofs.Test.{T→≡}
+use Rattle.interval.proofs.Naturals.{twice-pos}
 use Rattle.interval.specs.Bounds.{signed, inUnits, plusZero, wholeBound}
 use Rattle.interval.specs.Middle.{rounded, halfSum, largestFinite}
 use Rattle.interval.specs.Kinds.{largestUnits, cutUpTo}
 use Rattle.interval.proofs.Value.{Placed, placed, round-val}
-use Rattle.interval.proofs.Halving.{at-most-max, sign, magn, magn-le, sum-is, le-finite, under-finite}
+use Rattle.interval.proofs.Halving.{at-most-max, sign, magn, magn-le, sum-is, le-finite, under-finite, unlike-false}
 use Rattle.interval.proofs.Zeros.{keeps-finite}
 use Rattle.interval.proofs.HalfSum.{units-of, integer-sum}
 use Rattle.interval.proofs.Compare.{lt-at, lt-units, below-is}
@@ -52,10 +54,6 @@ cut-zero b f g h k =
 -- ---- doubling
 abbrev two : Float
 two = fin false 1 (pos 1)
-
-unlike-false : (t : Bool) → unlike t false ≡ t
-unlike-false true = refl
-unlike-false false = refl
 
 mul-two : (f : Format) (x : Float) (s : Bool) (a c : ℕ) → 0 < c → HasValue x s a c → mul f x two ≡ round f s (a * 2) c
 unfolding mul
@@ -109,9 +107,6 @@ twice-signed (suc X) h = refl
 neg-under : (X : ℕ) → 0 < X → ltZ (signed true X) (pos 0) ≡ true
 neg-under zero h = absurd (lt-irrefl 0 h)
 neg-under (suc X) h = refl
-
-twice-pos : (X : ℕ) → 0 < X → 0 < X * 2
-twice-pos X h = omega arith
 
 pub cut-units : (X : ℕ) → 0 < X → cutUpTo (signed true X) ≡ cond (ltb largestUnits (X * 2)) (largestFinite true) (round binary64 true (X * 2) (2 ^ 1074))
 cut-units X h =
@@ -176,12 +171,8 @@ test-is b n = go (ltb largestUnits (X * 2)) (ltb→lt largestUnits (X * 2)) (nlt
     test : X * 2 ≤ largestUnits → lt (mul binary64 b two) (largestFinite true) ≡ ltb largestUnits (X * 2)
     test h = ap (λ (z : Float). lt z (largestFinite true)) d ∙ lt-at (round binary64 true (X * 2) (2 ^ 1074)) (largestFinite true) true (X * 2) true largestUnits (2 ^ 1074) (pow-pos 1074) (near h) (refl, refl)
 
-    is-yes : (x : Bool) → T x → x ≡ true
-    is-yes true t = refl
-    is-yes false t = absurd t
-
     go : (x : Bool) → (T x → largestUnits < X * 2) → (T (not x) → X * 2 ≤ largestUnits) → lt (mul binary64 b two) (largestFinite true) ≡ ltb largestUnits (X * 2)
-    go true h k = ap (λ (z : Float). lt z (largestFinite true)) (d ∙ over-inf true (X * 2) (far (h tt))) ∙ inf-lt ∙ sym (is-yes (ltb largestUnits (X * 2)) (lt→ltb largestUnits (X * 2) (h tt)))
+    go true h k = ap (λ (z : Float). lt z (largestFinite true)) (d ∙ over-inf true (X * 2) (far (h tt))) ∙ inf-lt ∙ sym (T→≡ (ltb largestUnits (X * 2)) (lt→ltb largestUnits (X * 2) (h tt)))
     go false h k = test (k tt)
 
 pub cut-clipped : (b : Float) → T (fits binary64 b) → T (finite b) → lt b (ofBits binary64 0) ≡ true → lt (mul binary64 b (ofBits binary64 0x4000_0000_0000_0000)) (neg (ofBits binary64 0x7fef_ffff_ffff_ffff)) ≡ true → neg (ofBits binary64 0x7fef_ffff_ffff_ffff) ≡ cutUpTo (inUnits b)

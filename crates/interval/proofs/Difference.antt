@@ -4,7 +4,7 @@ use mathlib.Core.Path.{_≡_, refl, sym, ap, _∙_, subst}
 use Prim.Native.Nat.{ℕ, zero, suc, _*_, _^_, _≤_, _<_}
 use native.Mathlib.Nat.{mul-one, mul-right-comm, mul-le-mul-right, zero-lt-suc, not-le-of-lt, mul-lt-mul-of-pos-right}
 use native.Mathlib.Omega.{arith}
-use mathlib.Core.Bool.{Bool, true, false, not, _&&_, _||_, Bool·beq, false≢true}
+use mathlib.Core.Bool.{Bool, true, false, not, _||_, Bool·beq, false≢true, and-true}
 use lib.IntN.{ℤ, pos, negℤ, _+ℤ_, _-ℤ_, negℤ-negℤ}
 use lib.Signed.{leZ}
 use lib.Dec.{T, leb, eqb, eqb→eq, leb→le, nleb→lt, not-T}
@@ -16,6 +16,7 @@ use lib.Ieee.Back.{round-whole}
 use lib.Ieee.Exact.{HasValue}
 use lib.Ieee.Order.{round-mono}
 use lib.Ieee.Scale.{finite}
+use Rattle.base.proofs.Test.{T→≡, ≡→T, and-left}
 use Rattle.interval.specs.Bounds.{signed, inUnits, plusZero}
 use Rattle.interval.specs.Middle.{rounded}
 use Rattle.interval.proofs.Value.{placed}
@@ -54,10 +55,6 @@ num k = round binary64 false k 1
 
 small-eq : (d k : ℕ) → d ≤ 2 ^ 53 → k ≤ 2 ^ 53 → eq (num d) (num k) ≡ eqb d k
 small-eq d k h g = eq-at (num d) (num k) false d false k 1 (zero-lt-suc 0) (round-whole binary64 false d h) (round-whole binary64 false k g) ∙ and-true (eqb d k)
-  where
-    and-true : (b : Bool) → b && true ≡ b
-    and-true true = refl
-    and-true false = refl
 
 pub scale : (x : Float) (s : Bool) (a D : ℕ) → HasValue x s a 1 → HasValue x s (a * D) D
 scale nan s a D v = v
@@ -73,10 +70,6 @@ inf-not-eq t s (fin u m d) a c v e = false≢true e
 nan-not-eq : (y : Float) → eq nan y ≡ true → ⊥
 unfolding eq
 nan-not-eq y e = false≢true e
-
-first-true : (a b : Bool) → a && b ≡ true → T a
-first-true true b h = tt
-first-true false b h = absurd (false≢true h)
 
 more : (k D : ℕ) → 0 < D → k * D < suc k * D
 more k D h = mul-lt-mul-of-pos-right (lt-suc k) h
@@ -96,7 +89,7 @@ le-not-eq (fin t n d) k h g l e =
     let D = down d in
     let x = fin t n d in
     let v : HasValue x t (n * up d) D = (refl, refl) in
-    let q : n * up d ≡ k * D = eqb→eq (n * up d) (k * D) (first-true (eqb (n * up d) (k * D)) (Bool·beq t false || eqb (n * up d) 0) (sym (eq-at x (num k) t (n * up d) false (k * D) D (down-pos d) v (scale (num k) false k D (round-whole binary64 false k g))) ∙ e)) in
+    let q : n * up d ≡ k * D = eqb→eq (n * up d) (k * D) (≡→T (and-left (eqb (n * up d) (k * D)) (Bool·beq t false || eqb (n * up d) 0) (sym (eq-at x (num k) t (n * up d) false (k * D) D (down-pos d) v (scale (num k) false k D (round-whole binary64 false k g))) ∙ e))) in
     no-order t (suc k * D) (n * up d) (subst (λ (z : ℕ). z < suc k * D) (sym q) (more k D (down-pos d)))
     (subst T (le-at (num (suc k)) x false (suc k * D) t (n * up d) D (down-pos d) (scale (num (suc k)) false (suc k) D (round-whole binary64 false (suc k) h)) v ∙ le-is false (suc k * D) t (n * up d)) l)
 
@@ -119,9 +112,5 @@ whole-test d k h = go (leb d (2 ^ 53)) (leb→le d (2 ^ 53)) (nleb→lt d (2 ^ 5
     go : (b : Bool) → (T b → d ≤ 2 ^ 53) → (T (not b) → 2 ^ 53 < d) → eq (num d) (num k) ≡ eqb d k
     go true f g = small-eq d k (f tt) (le-pred h)
     go false f g =
-        is-false (eq (num d) (num k)) (not-T (eq (num d) (num k)) (λ (t : T (eq (num d) (num k))). le-not-eq (num d) k h (le-pred h) (round-mono binary64 (suc k) 1 d 1 (zero-lt-suc 0) (zero-lt-suc 0) (mul-le-mul-right 1 (far (g tt) .0))) (is-yes (eq (num d) (num k)) t)))
+        is-false (eq (num d) (num k)) (not-T (eq (num d) (num k)) (λ (t : T (eq (num d) (num k))). le-not-eq (num d) k h (le-pred h) (round-mono binary64 (suc k) 1 d 1 (zero-lt-suc 0) (zero-lt-suc 0) (mul-le-mul-right 1 (far (g tt) .0))) (T→≡ (eq (num d) (num k)) t)))
         ∙ sym (is-false (eqb d k) (not-T (eqb d k) (λ (t : T (eqb d k)). far (g tt) .1 (eqb→eq d k t))))
-      where
-        is-yes : (x : Bool) → T x → x ≡ true
-        is-yes true t = refl
-        is-yes false t = absurd t

@@ -5,6 +5,7 @@ use mathlib.Core.Bool.{Bool, true, false, _&&_, cond}
 use lib.Dec.{T}
 use lib.Ieee.{Float, nan, inf, fin, neg, lt}
 use lib.Ieee.Scale.{finite}
+use Rattle.base.proofs.Test.{≡→T, and-both}
 use Rattle.interval.specs.declared.kind.Kind.{Kind}
 use Rattle.interval.specs.declared.kind.Kind.the-variants.{Whole, UpTo, From, Between}
 use Rattle.interval.specs.Kinds.{kindOf, finiteEnds}
@@ -24,16 +25,10 @@ pub kind-ends : (a b : Float) → T (finiteEnds (kindOf a b))
 unfolding kindOf
 kind-ends a b = go (finite a) (finite b) refl refl
   where
-    passes : (t : Bool) → t ≡ true → T t
-    passes t e = rw e tt
-
-    both : (s t : Bool) → s ≡ true → t ≡ true → T (s && t)
-    both s t p q = rw (p, q) tt
-
     go : (s t : Bool) → finite a ≡ s → finite b ≡ t → T (finiteEnds (cond s (cond t (Between a b) (From a)) (cond t (UpTo b) Whole)))
-    go true true p q = both (finite a) (finite b) p q
-    go true false p q = passes (finite a) p
-    go false true p q = passes (finite b) q
+    go true true p q = ≡→T (and-both (finite a) (finite b) p q)
+    go true false p q = ≡→T p
+    go false true p q = ≡→T q
     go false false p q = tt
 
 -- the kind, by the two tests

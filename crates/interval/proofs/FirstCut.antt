@@ -1,7 +1,7 @@
 -- The first cut by kinds: which of the three pieces the definition keeps (`first-whole` to `first-real`), and that the code's tests
 -- choose the same (`made-whole` to `made-three`). Assumes nothing.
 use mathlib.Core.Path.{_≡_, refl, sym, ap, _∙_, subst}
-use mathlib.Core.Bool.{Bool, true, false, not, _&&_, _||_, cond, true≢false, false≢true}
+use mathlib.Core.Bool.{Bool, true, false, not, _&&_, _||_, cond, true≢false, false≢true, and-true, and-self}
 use mathlib.Core.List.{List, [], _∷_}
 use Prim.Native.Nat.{ℕ, _*_, _^_, _<_}
 use native.Mathlib.Nat.{lt-irrefl}
@@ -9,7 +9,7 @@ use lib.IntN.{ℤ, natAbs, _-ℤ_, +ℤ-invr}
 use lib.Dec.{T, eqb, eqb→eq, lit<}
 use lib.Ieee.{Float, nan, inf, fin, binary64, sub, ofBits, lt, le, eq, fits}
 use lib.Ieee.Scale.{finite}
-use Rattle.base.proofs.Test.{≡→T, T→≡, and-left, and-right, cases}
+use Rattle.base.proofs.Test.{≡→T, T→≡, and-left, and-right, cases, or-right}
 use Rattle.interval.specs.declared.Interval.{Interval}
 use Rattle.interval.specs.declared.Pieces.the-variants as C
 use Rattle.interval.specs.declared.kind.Kind.{Kind}
@@ -32,10 +32,6 @@ le-itself nan g = absurd g
 le-itself (inf s) g = absurd g
 le-itself (fin s m e) g = opened (or-right (lt (fin s m e) (fin s m e)) (eq (fin s m e) (fin s m e)) (eq-self-low (fin s m e) (inf false) above))
   where
-    or-right : (a b : Bool) → b ≡ true → a || b ≡ true
-    or-right true b h = refl
-    or-right false b h = h
-
     opened : lt (fin s m e) (fin s m e) || eq (fin s m e) (fin s m e) ≡ true → le (fin s m e) (fin s m e) ≡ true
     opened = unfold le in λ h. h
 
@@ -47,11 +43,7 @@ pub point-legal : (c : Float) → legalInterval (spanOf c c) false ≡ finite c
 point-legal c = put-legal (pairOf c c) false ∙ bounded (pairOf c c) ∙ go c
   where
     bounded : (x : Interval) → legalInterval x false ≡ legalBounds (x .lower) (x .upper)
-    bounded x = unfold legalInterval in last (legalBounds (x .lower) (x .upper))
-      where
-        last : (b : Bool) → b && true ≡ b
-        last true = refl
-        last false = refl
+    bounded x = unfold legalInterval in and-true (legalBounds (x .lower) (x .upper))
 
     go : (c : Float) → legalBounds c c ≡ finite c
     go nan = unfold le lt in refl
@@ -91,22 +83,14 @@ module _ (x : Interval) (integer : Bool) (h : legalInterval x integer ≡ true) 
   same-high : sameInterval (spanOf (x .lower) (x .upper)) (spanOf (x .upper) (x .upper)) ≡ eq (x .lower) (x .upper)
   same-high = same-put (pairOf (x .lower) (x .upper)) (pairOf (x .upper) (x .upper)) ∙ opened
     where
-      last : (b : Bool) → b && true ≡ b
-      last true = refl
-      last false = refl
-
       opened : sameInterval (pairOf (x .lower) (x .upper)) (pairOf (x .upper) (x .upper)) ≡ eq (x .lower) (x .upper)
-      opened = unfold sameInterval in ap (λ (z : Bool). eq (x .lower) (x .upper) && z) high-self ∙ last (eq (x .lower) (x .upper))
+      opened = unfold sameInterval in ap (λ (z : Bool). eq (x .lower) (x .upper) && z) high-self ∙ and-true (eq (x .lower) (x .upper))
 
   same-ends : sameInterval (spanOf (x .lower) (x .lower)) (spanOf (x .upper) (x .upper)) ≡ eq (x .lower) (x .upper)
   same-ends = same-put (pairOf (x .lower) (x .lower)) (pairOf (x .upper) (x .upper)) ∙ opened
     where
-      twice : (b : Bool) → b && b ≡ b
-      twice true = refl
-      twice false = refl
-
       opened : sameInterval (pairOf (x .lower) (x .lower)) (pairOf (x .upper) (x .upper)) ≡ eq (x .lower) (x .upper)
-      opened = unfold sameInterval in twice (eq (x .lower) (x .upper))
+      opened = unfold sameInterval in and-self (eq (x .lower) (x .upper))
 
 -- equal bounds have no width
 same-units : (a b : Float) → T (fits binary64 a) → T (fits binary64 b) → eq a b ≡ true → inUnits a ≡ inUnits b

@@ -3,7 +3,7 @@
 use mathlib.Core.Path.{_≡_, refl, sym, ap, _∙_, subst}
 use mathlib.Core.Logic.{_⊎_, inl, inr, ⊎-elim}
 use Prim.Native.Nat.{ℕ, zero, suc, _+_, _-_, _*_, _/_, _%_, _^_, _≤_, _<_, zero-le}
-use native.Mathlib.Nat.{le-refl, le-trans, le-of-eq, le-of-lt, lt-of-lt-of-le, lt-of-le-of-lt, eq-or-lt-of-le, eq-zero-or-pos, zero-mul, mul-assoc, mul-comm, mul-pos, mul-le-mul-right, mul-le-mul-left, mul-lt-mul-of-pos-right, div-mul-le-self, div-add-mod', mod-lt, pow-suc, lt-irrefl, not-le-of-lt, lt-of-not-le, le-of-suc-le-suc}
+use native.Mathlib.Nat.{le-refl, le-trans, le-of-eq, le-of-lt, lt-of-lt-of-le, lt-of-le-of-lt, eq-or-lt-of-le, eq-zero-or-pos, zero-mul, mul-assoc, mul-comm, mul-le-mul-right, mul-le-mul-left, mul-lt-mul-of-pos-right, div-mul-le-self, div-add-mod', mod-lt, pow-suc, not-le-of-lt, lt-of-not-le, le-of-suc-le-suc, not-suc-le-zero, le-add-right}
 use native.Mathlib.Omega.{arith}
 use mathlib.Core.Bool.{Bool, true, false, not, _&&_, cond, true≢false, false≢true}
 use lib.IntN.{pos, negℤ}
@@ -17,6 +17,7 @@ use lib.Ieee.Fits.{eq→eqb, and-l, and-r, down-pos}
 use lib.Ieee.Bits.{is-true}
 use lib.Ieee.Exact.{HasValue}
 use Rattle.base.proofs.Test.{≡→T}
+use Rattle.interval.proofs.Naturals.{at-most-zero, add-lt, first-zero}
 use Rattle.interval.specs.declared.Interval.{Interval}
 use Rattle.interval.specs.Bounds.{legalBounds, legalInterval, InFormat}
 use Rattle.interval.specs.Fraction.{topBits, sharedBits, simpleFraction}
@@ -29,9 +30,6 @@ use Rattle.interval.proofs.HalfBetween.{Signed, minus-le-plus}
 use Rattle.interval.proofs.CutUpTo.{inf-not-below}
 
 -- ---- the order of patterns, strictly
-add-lt : (a b c : ℕ) → b < c → a + b < a + c
-add-lt a b c h = omega arith
-
 same-strict : (x t u : ℕ) → t < u → fieldUnits x t < fieldUnits x u
 same-strict zero t u h = mul-lt-mul-of-pos-right h (pow-pos 0)
 same-strict (suc x) t u h = mul-lt-mul-of-pos-right (add-lt (2 ^ 52) t u h) (pow-pos x)
@@ -39,22 +37,13 @@ same-strict (suc x) t u h = mul-lt-mul-of-pos-right (add-lt (2 ^ 52) t u h) (pow
 grow : (h t : ℕ) → t < h → h + t < h * 2
 grow h t k = omega arith
 
-step : (h u : ℕ) → h ≤ h + u
-step h u = omega arith
-
 next-strict : (x t : ℕ) → t < 2 ^ 52 → fieldUnits x t < 2 ^ 52 * 2 ^ x
 next-strict zero t h = mul-lt-mul-of-pos-right h (pow-pos 0)
 next-strict (suc x) t h = lt-of-lt-of-le (mul-lt-mul-of-pos-right (grow (2 ^ 52) t h) (pow-pos x)) (le-of-eq (mul-assoc (2 ^ 52) 2 (2 ^ x) ∙ ap (λ (z : ℕ). 2 ^ 52 * z) (mul-comm 2 (2 ^ x) ∙ sym (pow-suc 2 x))))
 
-pred : (x y : ℕ) → x < suc y → x ≤ y
-pred x y h = omega arith
-
-no-less : (x : ℕ) → x < 0 → ⊥
-no-less x h = omega arith
-
 other-strict : (x t y u : ℕ) → t < 2 ^ 52 → x < y → fieldUnits x t < fieldUnits y u
-other-strict x t zero u h l = absurd (no-less x l)
-other-strict x t (suc y) u h l = lt-of-lt-of-le (next-strict x t h) (le-trans (mul-le-mul-left (2 ^ 52) (pow-mono (pred x y l))) (mul-le-mul-right (2 ^ y) (step (2 ^ 52) u)))
+other-strict x t zero u h l = absurd (not-suc-le-zero l)
+other-strict x t (suc y) u h l = lt-of-lt-of-le (next-strict x t h) (le-trans (mul-le-mul-left (2 ^ 52) (pow-mono (le-of-suc-le-suc l))) (mul-le-mul-right (2 ^ y) (le-add-right (2 ^ 52) u)))
 
 digits-lt : (k t u p q : ℕ) → k + t ≡ p → k + u ≡ q → p < q → t < u
 digits-lt k t u p q a b h = omega arith
@@ -96,9 +85,6 @@ at-signed s p h = go (eq-or-lt-of-le h)
     go : (p ≡ infinite) ⊎ (p < infinite) → Signed (at s p) s
     go (inl e) = subst (λ (z : Float). Signed z s) (sym (ap (at s) e ∙ at-infinite s)) refl
     go (inr l) = value-signed (at s p) s (unitsAt p) (2 ^ 1074) (at-value s p l)
-
-first-zero : (a b : ℕ) → 0 < b → a * b ≡ 0 → a ≡ 0
-first-zero a b h e = ⊎-elim (λ (z : a ≡ 0). z) (λ (l : 0 < a). absurd (lt-irrefl 0 (subst (λ (z : ℕ). 0 < z) e (mul-pos l h)))) (eq-zero-or-pos a)
 
 -- a value with no sign that is at most one with a sign is a zero
 plus-le-minus : (x y : Float) → Signed x false → Signed y true → T (le x y) → T (le x (fin false 0 (pos 0)))
@@ -191,13 +177,7 @@ unfolding ofFields odd
 zero-at = refl
 
 zero-cut : (k : ℕ) → 0 / 2 ^ k * 2 ^ k ≡ 0
-zero-cut k = flat (0 / 2 ^ k * 2 ^ k) (div-mul-le-self 0 (2 ^ k))
-  where
-    flat : (z : ℕ) → z ≤ 0 → z ≡ 0
-    flat z h = omega arith
-
-flat0 : (z : ℕ) → z ≤ 0 → z ≡ 0
-flat0 z h = omega arith
+zero-cut k = at-most-zero (0 / 2 ^ k * 2 ^ k) (div-mul-le-self 0 (2 ^ k))
 
 -- all by patterns: x and y are `at` their signs and rests
 by-patterns : (a b n : ℕ) → a < 2 ^ 64 → b < 2 ^ 64 → a % 2 ^ 63 ≤ infinite → b % 2 ^ 63 ≤ infinite → n ≤ 63 → 2 ^ (63 - n) ≤ bitXor a b
@@ -252,14 +232,14 @@ by-patterns a b n A B PA PB N d l t e = go (sign-case a) (sign-case b) t e
       where
         zero-keep : (u : Bool) → leb (2 ^ 63) b ≡ u → Inside (at (leb (2 ^ 63) a) P) (at (leb (2 ^ 63) b) Q) (ofBits binary64 (topBits n a))
         zero-keep u sb =
-            let z : P ≡ 0 = flat0 P (order-back P 0 PA zero-le (subst T (sym (ap (le (at false P)) zero-at ∙ e' false sa true e)) tt)) in
+            let z : P ≡ 0 = at-most-zero P (order-back P 0 PA zero-le (subst T (sym (ap (le (at false P)) zero-at ∙ e' false sa true e)) tt)) in
             let c : P / 2 ^ k * 2 ^ k ≡ P = ap (λ (y : ℕ). y / 2 ^ k * 2 ^ k) z ∙ zero-cut k ∙ sym z in
             put false u sa sb a false P (keep-a false sa ∙ ap (at false) c) (le-self (at false P) (at u Q) (l' false u sa sb), l' false u sa sb)
     go (inr sa) (inr sb) true e = zero-keep false sb
       where
         zero-keep : (u : Bool) → leb (2 ^ 63) b ≡ u → Inside (at (leb (2 ^ 63) a) P) (at (leb (2 ^ 63) b) Q) (ofBits binary64 (topBits n a))
         zero-keep u sb =
-            let z : P ≡ 0 = flat0 P (order-back P 0 PA zero-le (subst T (sym (ap (le (at false P)) zero-at ∙ e' false sa true e)) tt)) in
+            let z : P ≡ 0 = at-most-zero P (order-back P 0 PA zero-le (subst T (sym (ap (le (at false P)) zero-at ∙ e' false sa true e)) tt)) in
             let c : P / 2 ^ k * 2 ^ k ≡ P = ap (λ (y : ℕ). y / 2 ^ k * 2 ^ k) z ∙ zero-cut k ∙ sym z in
             put false u sa sb a false P (keep-a false sa ∙ ap (at false) c) (le-self (at false P) (at u Q) (l' false u sa sb), l' false u sa sb)
     go (inr sa) (inl sb) false e = absurd (true≢false (sym (is-true (le (at false P) (fin false 0 (pos 0))) (plus-le-minus (at false P) (at true Q) (at-signed false P PA) (at-signed true Q PB) (l' false true sa sb))) ∙ e' false sa false e))

@@ -14,6 +14,7 @@ use lib.Ieee.Fits.{round-fits, and-l, and-r, and-i, eq→eqb}
 use lib.Ieee.Order.{drop, kept, round-mono}
 use lib.Ieee.Scale.{grid, overflow, round-same}
 use lib.Ieee.Scale.{finite}
+use Rattle.interval.proofs.Naturals.{sum-self}
 use Rattle.interval.specs.Bounds.{signed, inUnits, plusZero}
 use Rattle.interval.specs.Middle.{rounded, halfSum}
 use Rattle.interval.proofs.Value.{placed, round-self}
@@ -101,16 +102,10 @@ plus-signed false n c C = refl
 plus-signed true n c C = sym (neg-rounded n c C)
 
 add-self : (s : Bool) (X : ℕ) → signed s X +ℤ signed s X ≡ signed s (X * 2)
-add-self false X = ap pos (dbl X)
-  where
-    dbl : (X : ℕ) → X + X ≡ X * 2
-    dbl X = omega arith
+add-self false X = ap pos (sum-self X)
 add-self true zero = refl
-add-self true (suc X) = ap negsuc (dbl X) ∙ sym (neg-suc (suc X * 2) (suc (X + X)) (two X))
+add-self true (suc X) = sym (neg-suc (suc X * 2) (suc (X + X)) (two X))
   where
-    dbl : (X : ℕ) → suc (X + X) ≡ suc (X + X)
-    dbl X = refl
-
     two : (X : ℕ) → suc X * 2 ≡ suc (suc (X + X))
     two X = omega arith
 

@@ -2,7 +2,7 @@
 -- (`by-the-halves`), and by the definition on whole numbers. Assumes nothing.
 use mathlib.Core.Path.{_≡_, refl, sym, ap, _∙_, subst}
 use Prim.Native.Nat.{ℕ, zero, suc, _+_, _-_, _*_, _/_, _^_, _≤_, _<_}
-use native.Mathlib.Nat.{mul-div-cancel, mul-pos, zero-mul, zero-lt-suc, lt-irrefl}
+use native.Mathlib.Nat.{mul-div-cancel, mul-pos, zero-mul, zero-lt-suc, lt-irrefl, not-suc-le-zero}
 use native.Mathlib.Omega.{arith}
 use mathlib.Core.Bool.{Bool, true, false, not, _&&_, cond}
 use lib.IntN.{ℤ, pos, negsuc, negℤ, subℕ, _+ℤ_, +ℤ-comm, negℤ-+ℤ}
@@ -24,7 +24,7 @@ unfolding inUnits
 units-of s m e a v = ap (λ (z : ℕ). signed s (z / down e)) (v .1) ∙ ap (signed s) (mul-div-cancel a (down-pos e))
 
 -- ---- `sum` and the sum of integers, but for the sign of a zero
-value-zero : (x : Float) (s : Bool) (c : ℕ) → 0 < c → HasValue x s 0 c → plusZero x ≡ fin false 0 (pos 0)
+pub value-zero : (x : Float) (s : Bool) (c : ℕ) → 0 < c → HasValue x s 0 c → plusZero x ≡ fin false 0 (pos 0)
 unfolding zeroAs
 value-zero nan s c C v = absurd v
 value-zero (inf t) s c C v = absurd v
@@ -50,14 +50,11 @@ sub-rounded a b c = go (ltb a b) (ltb→lt a b)
     go true h = ap (λ (z : ℕ). round binary64 true z c) (less a b (h tt))
     go false h = refl
 
-no-less-zero : (a : ℕ) → a < 0 → ⊥
-no-less-zero a h = omega arith
-
 same : (a : ℕ) → a + 0 ≡ a - 0
 same a = omega arith
 
 pub plus-neg : (a b : ℕ) → pos a +ℤ negℤ (pos b) ≡ subℕ a b
-plus-neg a zero = ap pos (same a) ∙ sym (cond-no (ltb a 0) (negsuc (0 - suc a)) (pos (a - 0)) (not-T (ltb a 0) (λ (t : T (ltb a 0)). no-less-zero a (ltb→lt a 0 t))))
+plus-neg a zero = ap pos (same a) ∙ sym (cond-no (ltb a 0) (negsuc (0 - suc a)) (pos (a - 0)) (not-T (ltb a 0) (λ (t : T (ltb a 0)). not-suc-le-zero (ltb→lt a 0 t))))
 plus-neg a (suc b) = refl
 
 clash : (a b : ℕ) → a < b → b < a → ⊥

@@ -16,12 +16,14 @@ use lib.Ieee.Digits.{size-lt, back}
 use lib.Ieee.Exact.{HasValue, round-exact}
 use lib.Ieee.Order.{drop, kept, round-mono}
 use lib.Ieee.Scale.{grid, overflow, finite, grid-scale, round-same}
+use Rattle.base.proofs.Test.{same-tests}
+use Rattle.interval.proofs.Naturals.{half-less, at-most-pred}
 use Rattle.interval.proofs.Value.{Placed, round-val, round-again, grid-same}
 
 abbrev pub half : Float
 half = fin false 1 (negsuc 0)
 
-unlike-false : (t : Bool) → unlike t false ≡ t
+pub unlike-false : (t : Bool) → unlike t false ≡ t
 unlike-false true = refl
 unlike-false false = refl
 
@@ -36,9 +38,6 @@ mul-half f (fin t m e) s a c C v =
     (ap (λ (z : ℕ). z * (c * 2)) (mul-one (m * up e)) ∙ sym (mul-assoc (m * up e) c 2) ∙ ap (λ (z : ℕ). z * 2) (v .1) ∙ mul-assoc a (down e) 2)
 
 -- ---- the two cases of `half-round`
-twice-under : (g o : ℕ) → g * 2 < o → g < o
-twice-under g o h = omega arith
-
 normal-case : (f : Format) (s : Bool) (N : ℕ) → grid f N (2 ^ low f) < overflow f → prec f ≤ size (N * 2 ^ low f / (2 ^ low f * 2)) → mul f (round f s N (2 ^ low f)) half ≡ round f s N (2 ^ low f * 2)
 normal-case f s N h n =
     let U = 2 ^ low f in
@@ -49,10 +48,7 @@ normal-case f s N h n =
     mul-half f (round f s N U) s (grid f N U) U P (round-val f s N U h)
     ∙ ap (λ (z : ℕ). round f s z (U * 2)) g
     ∙ round-same f s (G * 2) (U * 2) G U P2 P (mul-assoc G 2 U ∙ ap (λ (z : ℕ). G * z) (mul-comm 2 U))
-    ∙ round-again f s N (U * 2) (twice-under G (overflow f) (subst (λ (z : ℕ). z < overflow f) g h))
-
-shrink : (z p : ℕ) → z < p → z ≤ p - 1
-shrink z p h = omega arith
+    ∙ round-again f s N (U * 2) (half-less G (overflow f) (subst (λ (z : ℕ). z < overflow f) g h))
 
 pred-suc : (p : ℕ) → 0 < p → suc (p - 1) ≡ p
 pred-suc p h = omega arith
@@ -61,7 +57,7 @@ few-digits : (l p N : ℕ) → 0 < p → size (N * 2 ^ l / (2 ^ l * 2)) < p → 
 few-digits l p N P h =
     let U = 2 ^ l in
     let w = N * U / (U * 2) in
-    let a : w < 2 ^ (p - 1) = lt-of-lt-of-le (size-lt w) (pow-mono (shrink (size w) p h)) in
+    let a : w < 2 ^ (p - 1) = lt-of-lt-of-le (size-lt w) (pow-mono (at-most-pred (size w) p h)) in
     let b : N * U < 2 ^ (p - 1) * (U * 2) = div-lt-iff-lt-mul (mul-pos (pow-pos l) (zero-lt-suc 1)) .0 a in
     lt-of-mul-lt-mul-right U
     (subst (λ (z : ℕ). N * U < z) (ap (λ (z : ℕ). 2 ^ (p - 1) * z) (mul-comm U 2) ∙ sym (mul-assoc (2 ^ (p - 1)) 2 U) ∙ ap (λ (z : ℕ). z * U) (sym (pow-suc 2 (p - 1)) ∙ ap (λ (z : ℕ). 2 ^ z) (pred-suc p P))) b)
@@ -111,15 +107,9 @@ sum-is f s a t b c = go (Bool·beq s t) (ltb a b) (s && ltb b a)
     go false false z = refl
 
 -- equal fractions compare alike
-pub both-ways : (x y : Bool) → (T x → T y) → (T y → T x) → x ≡ y
-both-ways true true p q = refl
-both-ways true false p q = absurd (p tt)
-both-ways false true p q = absurd (q tt)
-both-ways false false p q = refl
-
 pub ltb-scale : (A B C a b c : ℕ) → 0 < C → 0 < c → A * c ≡ a * C → B * c ≡ b * C → ltb A B ≡ ltb a b
 ltb-scale A B C a b c C+ c+ p q =
-    both-ways (ltb A B) (ltb a b)
+    same-tests (ltb A B) (ltb a b)
     (λ (t : T (ltb A B)). lt→ltb a b (lt-of-mul-lt-mul-right C (subst (λ (z : ℕ). z < b * C) p (subst (λ (z : ℕ). A * c < z) q (mul-lt-mul-of-pos-right (ltb→lt A B t) c+)))))
     (λ (t : T (ltb a b)). lt→ltb A B (lt-of-mul-lt-mul-right c (subst (λ (z : ℕ). z < B * c) (sym p) (subst (λ (z : ℕ). a * C < z) (sym q) (mul-lt-mul-of-pos-right (ltb→lt a b t) C+)))))
 
@@ -191,9 +181,6 @@ sum-then-half f x y s a t b v w h =
 no-less : (m p : ℕ) → m < p → p ≤ m * 1 → ⊥
 no-less m p h k = omega arith
 
-half-less : (a b : ℕ) → a * 2 < b → a < b
-half-less a b h = omega arith
-
 pub half-exact : (f : Format) (x : Float) (s : Bool) (m j : ℕ) → m < 2 ^ prec f → m * 2 ^ j < overflow f → HasValue x s (m * 2 ^ j) (2 ^ low f) → 2 ^ prec f ≤ m * 2 ^ j
     → HasValue (mul f x half) s (m * 2 ^ j) (2 ^ low f * 2)
 half-exact f x s m zero d u v h = absurd (no-less m (2 ^ prec f) d h)
@@ -205,9 +192,6 @@ half-exact f x s m (suc i) d u v h =
     (ap (λ (z : ℕ). z * U) e ∙ mul-assoc (m * 2 ^ i) 2 U ∙ ap (λ (z : ℕ). m * 2 ^ i * z) (mul-comm 2 U)))
 
 -- the largestFinite finite value, in units
-pred-le : (a p : ℕ) → a < p → a ≤ p - 1
-pred-le a p h = omega arith
-
 pub at-most-max : (p h m j : ℕ) → m < 2 ^ p → m * 2 ^ j < 2 ^ (p + h) → m * 2 ^ j ≤ (2 ^ p - 1) * 2 ^ h
 at-most-max p h m j d u = go (leb j h) (leb→le j h) (nleb→lt j h)
   where
@@ -215,10 +199,10 @@ at-most-max p h m j d u = go (leb j h) (leb→le j h) (nleb→lt j h)
     high g =
         let e : m * 2 ^ j ≡ m * 2 ^ (j - h) * 2 ^ h = ap (λ (z : ℕ). m * z) (ap (λ (z : ℕ). 2 ^ z) (sym (back j h g)) ∙ pow-add 2 (j - h) h) ∙ sym (mul-assoc m (2 ^ (j - h)) (2 ^ h)) in
         let l : m * 2 ^ (j - h) < 2 ^ p = lt-of-mul-lt-mul-right (2 ^ h) (subst (λ (z : ℕ). m * 2 ^ (j - h) * 2 ^ h < z) (pow-add 2 p h) (subst (λ (z : ℕ). z < 2 ^ (p + h)) e u)) in
-        le-trans (le-of-eq e) (mul-le-mul-right (2 ^ h) (pred-le (m * 2 ^ (j - h)) (2 ^ p) l))
+        le-trans (le-of-eq e) (mul-le-mul-right (2 ^ h) (at-most-pred (m * 2 ^ (j - h)) (2 ^ p) l))
 
     go : (b : Bool) → (T b → j ≤ h) → (T (not b) → h < j) → m * 2 ^ j ≤ (2 ^ p - 1) * 2 ^ h
-    go true a b = le-trans (mul-le-mul-right (2 ^ j) (pred-le m (2 ^ p) d)) (mul-le-mul-left (2 ^ p - 1) (pow-mono (a tt)))
+    go true a b = le-trans (mul-le-mul-right (2 ^ j) (at-most-pred m (2 ^ p) d)) (mul-le-mul-left (2 ^ p - 1) (pow-mono (a tt)))
     go false a b = high (le-of-lt (b tt))
 
 abbrev U64 : ℕ

@@ -1,7 +1,7 @@
 -- The later cut: its pieces are legal and put (`later-proper`), one to three (`later-few`), and the code's tests choose the same
 -- (`later-yes`, `later-no`). A point has no width, so the middle piece always stays. Assumes nothing.
 use mathlib.Core.Path.{_≡_, refl, sym, ap, _∙_, subst}
-use mathlib.Core.Bool.{Bool, true, false, _&&_, cond}
+use mathlib.Core.Bool.{Bool, true, false, _&&_, cond, and-false}
 use mathlib.Core.List.{List, [], _∷_, _++_, append-nil}
 use Prim.Native.Nat.{ℕ, _*_, _^_, _<_}
 use native.Mathlib.Nat.{lt-irrefl}
@@ -31,11 +31,7 @@ no-width k c h =
     (ap (λ (z : ℤ). eqb (natAbs (z -ℤ inUnits (zeroAs true c))) (k * 2 ^ 1074)) (as-units false c ∙ sym (as-units true c))
     ∙ ap (λ (z : ℤ). eqb (natAbs z) (k * 2 ^ 1074)) (+ℤ-invr (inUnits (zeroAs true c)))
     ∙ ne-eqb 0 (k * 2 ^ 1074) h)
-    ∙ last (finite (zeroAs true c) && finite (zeroAs false c))
-  where
-    last : (b : Bool) → b && false ≡ false
-    last true = refl
-    last false = refl
+    ∙ and-false (finite (zeroAs true c) && finite (zeroAs false c))
 
 nonzero : (n : ℕ) → 0 < n → 0 ≡ n → ⊥
 nonzero n h e = lt-irrefl 0 (subst (λ (z : ℕ). 0 < z) (sym e) h)

@@ -1,5 +1,6 @@
 -- Laws on plain values that the functions' proofs and other crates cite, from single floats up to the cuts.
 -- single values
+pub mod Naturals
 pub mod Value
 pub mod Zeros
 pub mod Compare

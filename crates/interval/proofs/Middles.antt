@@ -2,7 +2,7 @@
 -- (`middle-rounded`). Assumes nothing.
 use mathlib.Core.Path.{_≡_, refl, sym, ap, _∙_, subst}
 use Prim.Native.Nat.{ℕ, zero, suc, _+_, _-_, _*_, _^_, _≤_, _<_}
-use native.Mathlib.Nat.{le-trans, lt-irrefl, mul-pos, mul-one, mul-le-mul-right, add-mul, zero-lt-suc, eq-of-mul-eq-mul-right}
+use native.Mathlib.Nat.{le-trans, lt-irrefl, mul-pos, mul-one, mul-le-mul-right, add-mul, zero-lt-suc, eq-of-mul-eq-mul-right, add-comm, le-of-lt}
 use native.Mathlib.Omega.{arith}
 use mathlib.Core.Bool.{Bool, true, false, not, _&&_}
 use lib.IntN.{ℤ, pos, negℤ, natAbs, _+ℤ_, _-ℤ_, +ℤ-comm, negℤ-negℤ, negℤ-+ℤ}
@@ -14,7 +14,7 @@ use lib.Ieee.Fits.{round-fits}
 use lib.Ieee.Back.{round-whole}
 use lib.Ieee.Order.{round-mono}
 use lib.Ieee.Scale.{finite, round-same}
-use Rattle.base.proofs.Test.{≡→T, T→≡, and-left, and-right}
+use Rattle.base.proofs.Test.{≡→T, T→≡, and-left, and-right, of-both}
 use Rattle.interval.specs.declared.Interval.{Interval}
 use Rattle.interval.specs.Bounds.{signed, inUnits, plusZero, wholeBound, legalInterval, InFormat}
 use Rattle.interval.specs.Middle.{rounded, halfSum, wholeNear}
@@ -59,12 +59,9 @@ above-edge (fin t m e) f g l = go t (placed binary64 t m e f) l
 num-whole : (n : ℕ) → T (finite (num n)) → wholeBound (num n) ≡ true
 num-whole n g = go (leb n (2 ^ 53)) (leb→le n (2 ^ 53)) (nleb→lt n (2 ^ 53))
   where
-    less : (a b : ℕ) → a < b → a ≤ b
-    less a b h = omega arith
-
     go : (b : Bool) → (T b → n ≤ 2 ^ 53) → (T (not b) → 2 ^ 53 < n) → wholeBound (num n) ≡ true
     go true h k = value-whole (num n) false n (round-whole binary64 false n (h tt))
-    go false h k = above-edge (num n) (round-fits binary64 false n 1) g (round-mono binary64 (2 ^ 53) 1 n 1 (zero-lt-suc 0) (zero-lt-suc 0) (mul-le-mul-right 1 (less (2 ^ 53) n (k tt))))
+    go false h k = above-edge (num n) (round-fits binary64 false n 1) g (round-mono binary64 (2 ^ 53) 1 n 1 (zero-lt-suc 0) (zero-lt-suc 0) (mul-le-mul-right 1 (le-of-lt (k tt))))
 
 finite-neg : (x : Float) → T (finite (neg x)) → T (finite x)
 unfolding neg
@@ -119,27 +116,16 @@ even-sum true p true q l e =
     let U = 2 ^ 1074 in
     let h : q * U ≤ p * U = neg-order (p * U) (q * U) l in
     let d : p * U - q * U ≡ 2 * U = ap natAbs (sym (ap (λ (z : ℤ). negℤ (pos (q * U)) +ℤ z) (negℤ-negℤ (pos (p * U))) ∙ +ℤ-comm (negℤ (pos (q * U))) (pos (p * U)) ∙ plus-neg (p * U) (q * U) ∙ sub-ge (p * U) (q * U) h)) ∙ e in
-    (true, q + 1, sym (negℤ-+ℤ (pos (p * U)) (pos (q * U))) ∙ ap (λ (z : ℕ). negℤ (pos z)) (turn (p * U) (q * U) ∙ up-two (q * U) (p * U) U h d ∙ sym (spread q U)))
-  where
-    turn : (a b : ℕ) → a + b ≡ b + a
-    turn a b = omega arith
+    (true, q + 1, sym (negℤ-+ℤ (pos (p * U)) (pos (q * U))) ∙ ap (λ (z : ℕ). negℤ (pos z)) (add-comm (p * U) (q * U) ∙ up-two (q * U) (p * U) U h d ∙ sym (spread q U)))
 even-sum true p false q l e =
     let U = 2 ^ 1074 in
-    two-parts p q (eq-of-mul-eq-mul-right U (pow-pos 1074) (p + q) 2 (add-mul p q U ∙ turn (p * U) (q * U) ∙ ap natAbs (sym (ap (λ (z : ℤ). pos (q * U) +ℤ z) (negℤ-negℤ (pos (p * U))))) ∙ e))
-  where
-    turn : (a b : ℕ) → a + b ≡ b + a
-    turn a b = omega arith
+    two-parts p q (eq-of-mul-eq-mul-right U (pow-pos 1074) (p + q) 2 (add-mul p q U ∙ add-comm (p * U) (q * U) ∙ ap natAbs (sym (ap (λ (z : ℤ). pos (q * U) +ℤ z) (negℤ-negℤ (pos (p * U))))) ∙ e))
 even-sum false p true q l e =
     let U = 2 ^ 1074 in
     let z = both-zero (p * U) (q * U) l in
     absurd (lt-irrefl 0 (subst (λ (k : ℕ). 0 < k) (sym (sym (ap (λ (k : ℕ). natAbs (negℤ (pos k) +ℤ negℤ (pos (p * U)))) (z .1) ∙ ap (λ (k : ℕ). natAbs (negℤ (pos 0) +ℤ negℤ (pos k))) (z .0)) ∙ e)) (lit< tt)))
 
 -- ---- so their midpoint is whole
-both-finite : (s t : Bool) → T s → T t → T (s && t)
-both-finite true true h k = tt
-both-finite true false h k = absurd k
-both-finite false t h k = absurd h
-
 even-half : (a b : Float) (r : Bool) (n : ℕ) → inUnits a +ℤ inUnits b ≡ signed r (n * (2 ^ 1074 * 2)) → halfSum a b ≡ plusZero (round binary64 r n 1)
 unfolding halfSum
 even-half a b r n e =
@@ -163,7 +149,7 @@ unfolding Even
 half-whole a b fa fb ga gb wa wb l e = from (units-even a b (multiple a fa ga wa) (multiple b fb gb wb) (subst T (le-units a b fa fb ga gb) l) e)
   where
     from : Even (inUnits a +ℤ inUnits b) → wholeBound (halfSum a b) ≡ true
-    from w = rounded-half a b (w .0) (w .1) (half-finite a b fa fb (both-finite (finite a) (finite b) ga gb)) (even-half a b (w .0) (w .1) (w .2))
+    from w = rounded-half a b (w .0) (w .1) (half-finite a b fa fb (of-both (finite a) (finite b) ga gb)) (even-half a b (w .0) (w .1) (w .2))
 
 -- ---- of an interval of width 2
 pub record Two (x : Interval) : Type 0 where

@@ -3,7 +3,7 @@
 use mathlib.Core.Path.{_≡_, refl, sym, ap, _∙_, subst}
 use mathlib.Core.Logic.{_⊎_, inl, inr}
 use Prim.Native.Nat.{ℕ, zero, suc, _+_, _*_, _/_, _%_, _^_, _≤_, _<_}
-use native.Mathlib.Nat.{le-trans, le-of-eq, le-of-lt, lt-of-le-of-lt, eq-or-lt-of-le, mul-assoc, mul-comm, mul-le-mul-right, mul-le-mul-left, div-lt-iff-lt-mul, div-add-mod', mod-lt, pow-suc, add-comm}
+use native.Mathlib.Nat.{le-trans, le-of-eq, le-of-lt, lt-of-le-of-lt, eq-or-lt-of-le, mul-assoc, mul-comm, mul-le-mul-right, mul-le-mul-left, div-lt-iff-lt-mul, div-add-mod', mod-lt, pow-suc, add-comm, not-suc-le-zero, le-of-suc-le-suc, le-add-right}
 use native.Mathlib.Omega.{arith}
 use mathlib.Core.Bool.{Bool, true, false, not, _&&_, _||_, cond, true≢false}
 use lib.Dec.{T, leb, ltb, eqb, eqb→eq, not-T}
@@ -57,23 +57,14 @@ same-field (suc x) t u h = mul-le-mul-right (2 ^ x) (add-le (2 ^ 52) t u h)
 grow : (h t : ℕ) → t < h → h + t ≤ h * 2
 grow h t k = omega arith
 
-step : (h u : ℕ) → h ≤ h + u
-step h u = omega arith
-
 below-next : (x t : ℕ) → t < 2 ^ 52 → fieldUnits x t ≤ 2 ^ 52 * 2 ^ x
 below-next zero t h = mul-le-mul-right (2 ^ 0) (le-of-lt h)
 below-next (suc x) t h =
     le-trans (mul-le-mul-right (2 ^ x) (grow (2 ^ 52) t h)) (le-of-eq (mul-assoc (2 ^ 52) 2 (2 ^ x) ∙ ap (λ (z : ℕ). 2 ^ 52 * z) (mul-comm 2 (2 ^ x) ∙ sym (pow-suc 2 x))))
 
-pred : (x y : ℕ) → x < suc y → x ≤ y
-pred x y h = omega arith
-
-no-less : (x : ℕ) → x < 0 → ⊥
-no-less x h = omega arith
-
 other-field : (x t y u : ℕ) → t < 2 ^ 52 → x < y → fieldUnits x t ≤ fieldUnits y u
-other-field x t zero u h l = absurd (no-less x l)
-other-field x t (suc y) u h l = le-trans (below-next x t h) (le-trans (mul-le-mul-left (2 ^ 52) (pow-mono (pred x y l))) (mul-le-mul-right (2 ^ y) (step (2 ^ 52) u)))
+other-field x t zero u h l = absurd (not-suc-le-zero l)
+other-field x t (suc y) u h l = le-trans (below-next x t h) (le-trans (mul-le-mul-left (2 ^ 52) (pow-mono (le-of-suc-le-suc l))) (mul-le-mul-right (2 ^ y) (le-add-right (2 ^ 52) u)))
 
 digits-le : (k t u p q : ℕ) → k + t ≡ p → k + u ≡ q → p ≤ q → t ≤ u
 digits-le k t u p q a b h = omega arith

@@ -10,7 +10,7 @@ use lib.ListN.{length}
 use lib.Ieee.{Float, nan, inf, fin, binary64, lt, le, eq, fits}
 use lib.Ieee.Fits.{inf-fits}
 use lib.Ieee.Scale.{finite}
-use Rattle.base.proofs.Test.{and-left, and-right, and-both}
+use Rattle.base.proofs.Test.{and-left, and-right, and-both, or-right}
 use Rattle.interval.specs.declared.Interval.{Interval}
 use Rattle.interval.specs.Bounds.{wholeBound, legalBounds, legalInterval, putInterval, InFormat, zeroAs}
 use Rattle.interval.specs.Cuts.{pairOf, spanOf}
@@ -91,10 +91,6 @@ unfolding lt
 number-high nan g = absurd g
 number-high (inf s) g = absurd g
 number-high (fin s m e) g = refl
-
-or-right : (a b : Bool) → b ≡ true → a || b ≡ true
-or-right true b h = refl
-or-right false b h = h
 
 pub le-self : (a c : Float) → le a c ≡ true → le c c ≡ true
 le-self a c h = opened (or-right (lt c c) (eq c c) (eq-self-high a c h))

@@ -58,16 +58,13 @@ data Side (u v w : Bool) : Type 0 where
   at : u ≡ false → v ≡ true → w ≡ false → Side u v w
   over : u ≡ false → v ≡ false → w ≡ true → Side u v w
 
-none-below : (X : ℕ) → ltb X 0 ≡ false
-none-below X = le-ltb X 0 (omega arith)
-
 not-nought : (X : ℕ) → eqb (suc X) 0 ≡ false
 not-nought X = eqb·suc-zero X
 
 units-side : (s : Bool) (X : ℕ) → Side (below s X false 0) (level s X false 0) (below false 0 s X)
 units-side false zero = at refl refl refl
 units-side true zero = at refl refl refl
-units-side false (suc X) = over (none-below (suc X)) (ap (λ (z : Bool). z && true) (not-nought X)) (lt-ltb 0 (suc X) (omega arith))
+units-side false (suc X) = over (le-ltb (suc X) 0 (omega arith)) (ap (λ (z : Bool). z && true) (not-nought X)) (lt-ltb 0 (suc X) (omega arith))
 units-side true (suc X) = under (lt-ltb 0 (suc X + 0) (omega arith)) (ap (λ (z : Bool). z && z) (not-nought X)) refl
 
 side : (b : Float) → T (fits binary64 b) → T (finite b) → Side (lt b nought) (eq b nought) (lt nought b)
@@ -83,22 +80,18 @@ side (fin s m e) f g =
     (units-side s X)))
 
 -- ---- twice a number, either way round
+unlike-turn : (s : Bool) → unlike false s ≡ unlike s false
+unlike-turn true = refl
+unlike-turn false = refl
+
 two-first : (b : Float) → mul binary64 two b ≡ mul binary64 b two
 unfolding mul
 two-first nan = refl
-two-first (inf s) = ap inf (turn s)
-  where
-    turn : (s : Bool) → unlike false s ≡ unlike s false
-    turn true = refl
-    turn false = refl
+two-first (inf s) = ap inf (unlike-turn s)
 two-first (fin s m e) =
-    ap (λ (z : Bool). round binary64 z (1 * 2 * (m * up e)) (1 * down e)) (turn s)
+    ap (λ (z : Bool). round binary64 z (1 * 2 * (m * up e)) (1 * down e)) (unlike-turn s)
     ∙ ap (λ (z : ℕ). round binary64 (unlike s false) z (1 * down e)) (mul-comm 2 (m * up e))
     ∙ ap (λ (z : ℕ). round binary64 (unlike s false) (m * up e * 2) z) (one-mul (down e) ∙ sym (mul-one (down e)))
-  where
-    turn : (s : Bool) → unlike false s ≡ unlike s false
-    turn true = refl
-    turn false = refl
 
 -- ---- [-inf, b]
 up-is : (b : Float) → T (fits binary64 b) → T (finite b) → rustUp b ≡ cutUpTo (inUnits b)

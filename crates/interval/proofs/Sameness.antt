@@ -1,5 +1,5 @@
--- Intervals with the same bounds: reflexive where legal (`same-self`), symmetric (`same-turn`), kept by putting (`same-put`), and
--- equality for put ones (`same-is`), since two floats with the same zeros that compare equal are one. Assumes nothing.
+-- Intervals with the same bounds: kept by putting (`same-put`), and equality for put ones (`same-is`), since two floats with the same zeros that
+-- compare equal are one. Assumes nothing.
 use mathlib.Core.Path.{_≡_, refl, sym, ap, _∙_, subst}
 use Prim.Native.Nat.{ℕ, zero, suc, _*_, _<_}
 use native.Mathlib.Nat.{mul-pos, zero-lt-suc, lt-irrefl}
@@ -10,19 +10,11 @@ use lib.Dec.{T, eqb, eqb→eq, eqb-refl}
 use lib.Ieee.{Float, nan, inf, fin, binary64, up, down, level, eq, le, fits}
 use lib.Ieee.Fits.{up-pos, down-pos, eq→eqb}
 use lib.Ieee.Bits.{is-true}
-use Rattle.base.proofs.Test.{≡→T, and-left, and-right, and-both, both-ways}
+use Rattle.base.proofs.Test.{≡→T, and-left, and-right, and-both, or-parts, beq-true, beq-self, both-ways}
 use Rattle.interval.specs.declared.Interval.{Interval}
-use Rattle.interval.specs.Bounds.{zeroAs, InFormat, legalInterval, putInterval, sameInterval}
+use Rattle.interval.specs.Bounds.{zeroAs, InFormat, putInterval, sameInterval}
 use Rattle.interval.proofs.Value.{value-unique}
-use Rattle.interval.proofs.Compare.{or-true, and-true}
 use Rattle.interval.proofs.Zeros.{as-eq-left, as-eq-right}
-use Rattle.interval.proofs.Legality.{legal-order}
-
-beq-true : (s t : Bool) → Bool·beq s t ≡ true → s ≡ t
-beq-true true true h = refl
-beq-true true false h = absurd (false≢true h)
-beq-true false true h = absurd (false≢true h)
-beq-true false false h = refl
 
 none : (m : ℕ) (e : ℤ) (d : ℕ) → 0 < d → suc m * up e * d ≡ 0 → ⊥
 none m e d h k = lt-irrefl 0 (subst (λ (z : ℕ). 0 < z) k (mul-pos (mul-pos (zero-lt-suc m) (up-pos e)) h))
@@ -52,11 +44,7 @@ same-float t (fin r m e) (fin s n d) f g p q h =
     let B = n * up d * down e in
     let k : A ≡ B = eqb→eq A B (≡→T (and-left (eqb A B) (Bool·beq r s || eqb A 0) h)) in
     level-same t r m e s n d f g p q k
-    (⊎-elim (λ (z : Bool·beq r s ≡ true). inl (beq-true r s z)) (λ (z : eqb A 0 ≡ true). inr (eqb→eq A 0 (≡→T z))) (or-true (Bool·beq r s) (eqb A 0) (and-right (eqb A B) (Bool·beq r s || eqb A 0) h)))
-
-beq-self : (s : Bool) → Bool·beq s s ≡ true
-beq-self true = refl
-beq-self false = refl
+    (⊎-elim (λ (z : Bool·beq r s ≡ true). inl (beq-true r s z)) (λ (z : eqb A 0 ≡ true). inr (eqb→eq A 0 (≡→T z))) (or-parts (Bool·beq r s) (eqb A 0) (and-right (eqb A B) (Bool·beq r s || eqb A 0) h)))
 
 level-self : (s : Bool) (a : ℕ) → level s a s a ≡ true
 level-self true a = and-both (eqb a a) true (is-true (eqb a a) (eqb-refl a)) refl
@@ -83,8 +71,9 @@ eqb-turn a b h = is-true (eqb b a) (eq→eqb (sym (eqb→eq a b (subst T (sym h)
 
 level-turn : (s : Bool) (a : ℕ) (t : Bool) (b : ℕ) → level s a t b ≡ true → level t b s a ≡ true
 level-turn s a t b h =
-    let e : a ≡ b = eqb→eq a b (subst T (sym (and-true (eqb a b) (Bool·beq s t || eqb a 0) h .0)) tt) in
-    ap (λ (z : Bool). z && (Bool·beq t s || eqb b 0)) (eqb-turn a b (and-true (eqb a b) (Bool·beq s t || eqb a 0) h .0)) ∙ sides s t (eqb b 0) (subst (λ (z : ℕ). Bool·beq s t || eqb z 0 ≡ true) e (and-true (eqb a b) (Bool·beq s t || eqb a 0) h .1))
+    let f : eqb a b ≡ true = and-left (eqb a b) (Bool·beq s t || eqb a 0) h in
+    let e : a ≡ b = eqb→eq a b (≡→T f) in
+    ap (λ (z : Bool). z && (Bool·beq t s || eqb b 0)) (eqb-turn a b f) ∙ sides s t (eqb b 0) (subst (λ (z : ℕ). Bool·beq s t || eqb z 0 ≡ true) e (and-right (eqb a b) (Bool·beq s t || eqb a 0) h))
   where
     sides : (s t x : Bool) → Bool·beq s t || x ≡ true → Bool·beq t s || x ≡ true
     sides true true x h = refl
@@ -109,29 +98,11 @@ pub eq-turn : (x y : Float) → eq x y ≡ eq y x
 eq-turn x y = both-ways (eq x y) (eq y x) (eq-sym x y) (eq-sym y x)
 
 -- ---- two intervals
-pub same-self : (x : Interval) (integer : Bool) → legalInterval x integer ≡ true → sameInterval x x ≡ true
-unfolding sameInterval
-same-self x integer h =
-    let l = legal-order x integer h in
-    and-both (eq (x .lower) (x .lower)) (eq (x .upper) (x .upper)) (eq-self-low (x .lower) (x .upper) l) (eq-self-high (x .lower) (x .upper) l)
-
 pub same-put : (x y : Interval) → sameInterval (putInterval x) (putInterval y) ≡ sameInterval x y
 unfolding sameInterval putInterval
 same-put x y =
     ap (λ (z : Bool). z && eq (putInterval x .upper) (putInterval y .upper)) (as-eq-left true (x .lower) (putInterval y .lower) ∙ as-eq-right true (x .lower) (y .lower))
     ∙ ap (λ (z : Bool). eq (x .lower) (y .lower) && z) (as-eq-left false (x .upper) (putInterval y .upper) ∙ as-eq-right false (x .upper) (y .upper))
-
-pub same-turn : (x y : Interval) → sameInterval x y ≡ sameInterval y x
-unfolding sameInterval
-same-turn x y = ap (λ (z : Bool). z && eq (x .upper) (y .upper)) (eq-turn (x .lower) (y .lower)) ∙ ap (λ (z : Bool). eq (y .lower) (x .lower) && z) (eq-turn (x .upper) (y .upper))
-
--- what is put is the same as it was
-pub put-same : (x : Interval) (integer : Bool) → legalInterval x integer ≡ true → sameInterval (putInterval x) x ≡ true
-unfolding sameInterval putInterval
-put-same x integer h =
-    ap (λ (z : Bool). z && eq (putInterval x .upper) (x .upper)) (as-eq-left true (x .lower) (x .lower))
-    ∙ ap (λ (z : Bool). eq (x .lower) (x .lower) && z) (as-eq-left false (x .upper) (x .upper))
-    ∙ same-self x integer h
 
 -- put intervals that are the same are equal
 pub same-is : (x y : Interval) → InFormat x → InFormat y → putInterval x ≡ x → putInterval y ≡ y → sameInterval x y ≡ true → x ≡ y

@@ -5,7 +5,7 @@ use mathlib.Core.Logic.{⊎-elim}
 use Prim.Native.Nat.{ℕ, _*_, _^_, _≤_, _<_}
 use native.Mathlib.Nat.{eq-zero-or-pos, lt-irrefl}
 use native.Mathlib.Omega.{arith}
-use mathlib.Core.Bool.{Bool, true, false, not, _&&_, _||_, Bool·beq, cond, false≢true}
+use mathlib.Core.Bool.{Bool, true, false, not, _&&_, _||_, Bool·beq, cond, false≢true, and-false}
 use lib.IntN.{ℤ, pos, negℤ}
 use lib.Dec.{T, ltb, eqb, nltb→le, lit<}
 use lib.Pow.{pow-pos}
@@ -20,7 +20,7 @@ use Rattle.interval.specs.Middle.{rounded, largestFinite, halfAway, whol
 use Rattle.interval.specs.Kinds.{kindOf, middleAt, largestUnits, cutUpTo, cutPointAt, cutPointOf}
 use Rattle.interval.specs.Cuts.{subdivisible}
 use Rattle.interval.proofs.Value.{Placed, placed}
-use Rattle.interval.proofs.Zeros.{as-eq-right}
+use Rattle.interval.proofs.Zeros.{as-eq-right, signed-zero}
 use Rattle.interval.proofs.HalfSum.{units-of}
 use Rattle.interval.proofs.Compare.{eq-at}
 use Rattle.interval.proofs.Patterns.{neg-neg}
@@ -35,11 +35,7 @@ unequal : (s t : Bool) (a b : ℕ) → (a ≡ b → ⊥) → level s a t b ≡ f
 unequal s t a b h = ap (λ (z : Bool). z && (Bool·beq s t || eqb a 0)) (ne-eqb a b h)
 
 unlike-signs : (a b : ℕ) → (a ≡ 0 → ⊥) → level false a true b ≡ false
-unlike-signs a b h = ap (λ (z : Bool). eqb a b && z) (ne-eqb a 0 h) ∙ last (eqb a b)
-  where
-    last : (b : Bool) → b && false ≡ false
-    last true = refl
-    last false = refl
+unlike-signs a b h = ap (λ (z : Bool). eqb a b && z) (ne-eqb a 0 h) ∙ and-false (eqb a b)
 
 is-level : (s : Bool) (m : ℕ) (e : ℤ) (p : Placed binary64 s (fin s m e)) (c : Float) (t : Bool) (y : ℕ) → HasValue c t y (2 ^ 1074) → eq (fin s m e) c ≡ level s (p .m * 2 ^ p .j) t y
 is-level s m e p c t y v = eq-at (fin s m e) c s (p .m * 2 ^ p .j) t y (2 ^ 1074) (pow-pos 1074) (p .value) v
@@ -81,10 +77,6 @@ up-at : (s : Bool) (m : ℕ) (e : ℤ) (p : Placed binary64 s (fin s m e)) → p
 up-at s m e p z =
     is-level s m e p (largestFinite true) true largestUnits (refl, refl) ∙ ap (λ (y : ℕ). level s y true largestUnits) z ∙ unequal s true 0 largestUnits none-large
     ∙ sym (ap (λ (y : ℤ). eq (fin s m e) (cutUpTo y)) (ap (signed s) z ∙ signed-zero s) ∙ is-level s m e p (fin true 1 (pos 0)) true (2 ^ 1074) (refl, refl) ∙ ap (λ (y : ℕ). level s y true (2 ^ 1074)) z ∙ unequal s true 0 (2 ^ 1074) none-one)
-  where
-    signed-zero : (s : Bool) → signed s 0 ≡ pos 0
-    signed-zero true = refl
-    signed-zero false = refl
 
 pub up-equal : (b : Float) → T (fits binary64 b) → T (finite b) → eq b (largestFinite true) ≡ eq b (cutUpTo (inUnits b))
 up-equal nan f g = absurd g

@@ -13,9 +13,10 @@ use lib.Count.{leadingZeros, leading-le}
 use lib.Ieee.{Float, nan, inf, fin, binary64, lt, le, isNan, nanBits, toBits, ofBits, fits}
 use lib.Ieee.Fits.{eq→eqb}
 use lib.Ieee.Bits.{is-true, is-false, ofBits-toBits, toBits-lt, nanBits-is, nanBits-above}
+use Rattle.base.proofs.Test.{same-tests}
+use Rattle.interval.proofs.Naturals.{add-lt}
 use Rattle.interval.specs.Bounds.{legalBounds}
 use Rattle.interval.specs.Fraction.{topBits, sharedBits, simpleFraction}
-use Rattle.interval.proofs.Halving.{both-ways}
 use Rattle.interval.proofs.Patterns.{infinite, at, ofBits-at}
 
 not-false : (b : Bool) → T (not b) → b ≡ false
@@ -50,7 +51,7 @@ cut-mod w j k =
 
 cut-sign : (w j k : ℕ) → leb (2 ^ (j + k)) (w / 2 ^ k * 2 ^ k) ≡ leb (2 ^ (j + k)) w
 cut-sign w j k =
-    both-ways (leb (2 ^ (j + k)) (w / 2 ^ k * 2 ^ k)) (leb (2 ^ (j + k)) w)
+    same-tests (leb (2 ^ (j + k)) (w / 2 ^ k * 2 ^ k)) (leb (2 ^ (j + k)) w)
     (λ (t : T (leb (2 ^ (j + k)) (w / 2 ^ k * 2 ^ k))). le→leb (2 ^ (j + k)) w (le-trans (leb→le (2 ^ (j + k)) (w / 2 ^ k * 2 ^ k) t) (div-mul-le-self w (2 ^ k))))
     (λ (t : T (leb (2 ^ (j + k)) w)). le→leb (2 ^ (j + k)) (w / 2 ^ k * 2 ^ k) (le-trans (le-of-eq (pow-add 2 j k)) (mul-le-mul-right (2 ^ k) (le-div-iff-mul-le (pow-pos k) .1 (le-trans (le-of-eq (sym (pow-add 2 j k))) (leb→le (2 ^ (j + k)) w t))))))
 
@@ -91,10 +92,7 @@ above : (k d : ℕ) → 2 ^ k ≤ d → 0 < d / 2 ^ k
 above k d h = le-div-iff-mul-le (pow-pos k) .1 (le-trans (le-of-eq (one-mul (2 ^ k))) h)
 
 last-step : (a b u r q : ℕ) → q * u + r ≡ b → r < u → (q + 1) * u ≤ a → b ≤ a
-last-step a b u r q e h k = le-trans (le-of-eq (sym e)) (le-trans (le-of-lt (plus (q * u) r u h)) (le-trans (le-of-eq (sym (add-mul q 1 u ∙ ap (λ (z : ℕ). q * u + z) (one-mul u)))) k))
-  where
-    plus : (p r u : ℕ) → r < u → p + r < p + u
-    plus p r u h = omega arith
+last-step a b u r q e h k = le-trans (le-of-eq (sym e)) (le-trans (le-of-lt (add-lt (q * u) r u h)) (le-trans (le-of-eq (sym (add-mul q 1 u ∙ ap (λ (z : ℕ). q * u + z) (one-mul u)))) k))
 
 -- where bit k is the highest in which they differ or any other that differs, the larger with its low k bits cleared is still no less than the smaller
 pub cut-above : (a b k : ℕ) → b ≤ a → 2 ^ k ≤ bitXor a b → b ≤ a / 2 ^ k * 2 ^ k

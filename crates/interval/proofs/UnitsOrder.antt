@@ -2,6 +2,7 @@
 -- (`le-units`). Assumes nothing.
 use mathlib.Core.Path.{_≡_, refl, sym, ap, _∙_, subst}
 use Prim.Native.Nat.{ℕ, zero, suc, _+_, _-_, _*_, _^_, _≤_, _<_}
+use native.Mathlib.Nat.{le-of-lt}
 use native.Mathlib.Omega.{arith}
 use mathlib.Core.Bool.{Bool, true, false, not, _&&_, _||_, cond}
 use lib.IntN.{ℤ, pos, negsuc, negℤ, subℕ, _+ℤ_, +ℤ-assoc}
@@ -12,9 +13,10 @@ use lib.Ieee.{Float, nan, inf, fin, binary64, below, level, le, fits}
 use lib.Ieee.Fits.{eq→eqb, and-l, and-r, and-i}
 use lib.Ieee.Bits.{is-true, is-false, cond-no}
 use lib.Ieee.Scale.{finite}
+use Rattle.base.proofs.Test.{same-tests, either-of, of-left, of-right}
+use Rattle.interval.proofs.Naturals.{at-most-zero}
 use Rattle.interval.specs.Bounds.{signed, inUnits}
 use Rattle.interval.proofs.Value.{placed}
-use Rattle.interval.proofs.Halving.{both-ways}
 use Rattle.interval.proofs.HalfSum.{units-of}
 use Rattle.interval.proofs.Compare.{le-at}
 
@@ -75,18 +77,6 @@ neg-order (suc m) (suc n) h = up (leb→le n m h)
     up h = omega arith
 
 -- ---- `le` as the order of units
-or-elim : {X : Type 0} (a b : Bool) → (T a → X) → (T b → X) → T (a || b) → X
-or-elim true b f g h = f tt
-or-elim false b f g h = g h
-
-or-l : (a b : Bool) → T a → T (a || b)
-or-l true b t = tt
-or-l false b t = absurd t
-
-or-r : (a b : Bool) → T b → T (a || b)
-or-r true b t = tt
-or-r false b t = t
-
 le-split : (a b : ℕ) → a ≤ b → T (ltb a b || (eqb a b && true))
 le-split a b h = go (ltb a b) (λ (t : T (not (ltb a b))). last t)
   where
@@ -103,9 +93,6 @@ le-split a b h = go (ltb a b) (λ (t : T (not (ltb a b))). last t)
     go true f = tt
     go false f = and-i (eqb a b) true (f tt) tt
 
-lt-le : (a b : ℕ) → a < b → a ≤ b
-lt-le a b h = omega arith
-
 eq-le : (a b : ℕ) → a ≡ b → a ≤ b
 eq-le a b h = omega arith
 
@@ -113,27 +100,24 @@ not-suc : (a : ℕ) (b : ℕ) → a ≡ suc b → a ≡ 0 → ⊥
 not-suc a b h k = omega arith
 
 pub le-is : (s : Bool) (a : ℕ) (t : Bool) (b : ℕ) → below s a t b || level s a t b ≡ leZ (signed s a) (signed t b)
-le-is false a false b = both-ways (ltb a b || (eqb a b && true)) (leb a b) (or-elim (ltb a b) (eqb a b && true) (λ t. le→leb a b (lt-le a b (ltb→lt a b t))) (λ t. le→leb a b (eq-le a b (eqb→eq a b (and-l (eqb a b) true t))))) (λ t. le-split a b (leb→le a b t))
-le-is false a true zero = both-ways (eqb a 0 && eqb a 0) (leb a 0) (λ t. le→leb a 0 (eq-le a 0 (eqb→eq a 0 (and-l (eqb a 0) (eqb a 0) t)))) (λ t. let e : T (eqb a 0) = eq→eqb (flat a (leb→le a 0 t)) in and-i (eqb a 0) (eqb a 0) e e)
-  where
-    flat : (a : ℕ) → a ≤ 0 → a ≡ 0
-    flat a h = omega arith
+le-is false a false b = same-tests (ltb a b || (eqb a b && true)) (leb a b) (either-of (ltb a b) (eqb a b && true) (λ t. le→leb a b (le-of-lt (ltb→lt a b t))) (λ t. le→leb a b (eq-le a b (eqb→eq a b (and-l (eqb a b) true t))))) (λ t. le-split a b (leb→le a b t))
+le-is false a true zero = same-tests (eqb a 0 && eqb a 0) (leb a 0) (λ t. le→leb a 0 (eq-le a 0 (eqb→eq a 0 (and-l (eqb a 0) (eqb a 0) t)))) (λ t. let e : T (eqb a 0) = eq→eqb (at-most-zero a (leb→le a 0 t)) in and-i (eqb a 0) (eqb a 0) e e)
 le-is false a true (suc b) = is-false (eqb a (suc b) && eqb a 0) (not-T (eqb a (suc b) && eqb a 0) (λ t. not-suc a b (eqb→eq a (suc b) (and-l (eqb a (suc b)) (eqb a 0) t)) (eqb→eq a 0 (and-r (eqb a (suc b)) (eqb a 0) t))))
-le-is true zero false b = both-ways (ltb 0 (0 + b) || (eqb 0 b && eqb 0 0)) (leb 0 b) (λ t. le→leb 0 b (omega arith)) (λ t. subst (λ (z : ℕ). T (ltb 0 z || (eqb 0 b && eqb 0 0))) (sym (plain b)) (le-split 0 b (omega arith)))
+le-is true zero false b = same-tests (ltb 0 (0 + b) || (eqb 0 b && eqb 0 0)) (leb 0 b) (λ t. le→leb 0 b (omega arith)) (λ t. subst (λ (z : ℕ). T (ltb 0 z || (eqb 0 b && eqb 0 0))) (sym (plain b)) (le-split 0 b (omega arith)))
   where
     plain : (b : ℕ) → 0 + b ≡ b
     plain b = omega arith
-le-is true (suc a) false b = is-true (ltb 0 (suc a + b) || (eqb (suc a) b && eqb (suc a) 0)) (or-l (ltb 0 (suc a + b)) (eqb (suc a) b && eqb (suc a) 0) (lt→ltb 0 (suc a + b) (omega arith)))
+le-is true (suc a) false b = is-true (ltb 0 (suc a + b) || (eqb (suc a) b && eqb (suc a) 0)) (of-left (ltb 0 (suc a + b)) (eqb (suc a) b && eqb (suc a) 0) (lt→ltb 0 (suc a + b) (omega arith)))
 le-is true zero true zero = refl
-le-is true zero true (suc b) = is-false (ltb (suc b) 0 || (eqb 0 (suc b) && true)) (not-T (ltb (suc b) 0 || (eqb 0 (suc b) && true)) (or-elim (ltb (suc b) 0) (eqb 0 (suc b) && true) (λ t. no-lt (ltb→lt (suc b) 0 t)) (λ t. no-eq (eqb→eq 0 (suc b) (and-l (eqb 0 (suc b)) true t)))))
+le-is true zero true (suc b) = is-false (ltb (suc b) 0 || (eqb 0 (suc b) && true)) (not-T (ltb (suc b) 0 || (eqb 0 (suc b) && true)) (either-of (ltb (suc b) 0) (eqb 0 (suc b) && true) (λ t. no-lt (ltb→lt (suc b) 0 t)) (λ t. no-eq (eqb→eq 0 (suc b) (and-l (eqb 0 (suc b)) true t)))))
   where
     no-lt : suc b < 0 → ⊥
     no-lt h = omega arith
 
     no-eq : 0 ≡ suc b → ⊥
     no-eq h = omega arith
-le-is true (suc a) true zero = is-true (ltb 0 (suc a) || (eqb (suc a) 0 && true)) (or-l (ltb 0 (suc a)) (eqb (suc a) 0 && true) (lt→ltb 0 (suc a) (omega arith)))
-le-is true (suc a) true (suc b) = both-ways (ltb (suc b) (suc a) || (eqb (suc a) (suc b) && true)) (leb b a) (or-elim (ltb (suc b) (suc a)) (eqb (suc a) (suc b) && true) (λ t. le→leb b a (less (ltb→lt (suc b) (suc a) t))) (λ t. le→leb b a (same (eqb→eq (suc a) (suc b) (and-l (eqb (suc a) (suc b)) true t))))) (λ t. more (leb→le b a t))
+le-is true (suc a) true zero = is-true (ltb 0 (suc a) || (eqb (suc a) 0 && true)) (of-left (ltb 0 (suc a)) (eqb (suc a) 0 && true) (lt→ltb 0 (suc a) (omega arith)))
+le-is true (suc a) true (suc b) = same-tests (ltb (suc b) (suc a) || (eqb (suc a) (suc b) && true)) (leb b a) (either-of (ltb (suc b) (suc a)) (eqb (suc a) (suc b) && true) (λ t. le→leb b a (less (ltb→lt (suc b) (suc a) t))) (λ t. le→leb b a (same (eqb→eq (suc a) (suc b) (and-l (eqb (suc a) (suc b)) true t))))) (λ t. more (leb→le b a t))
   where
     less : suc b < suc a → b ≤ a
     less h = omega arith
@@ -142,7 +126,7 @@ le-is true (suc a) true (suc b) = both-ways (ltb (suc b) (suc a) || (eqb (suc a)
     same h = omega arith
 
     more : b ≤ a → T (ltb (suc b) (suc a) || (eqb (suc a) (suc b) && true))
-    more h = or-elim (ltb (suc b) (suc a)) (eqb (suc b) (suc a) && true) (λ t. or-l (ltb (suc b) (suc a)) (eqb (suc a) (suc b) && true) t) (λ t. or-r (ltb (suc b) (suc a)) (eqb (suc a) (suc b) && true) (and-i (eqb (suc a) (suc b)) true (eq→eqb (sym (eqb→eq (suc b) (suc a) (and-l (eqb (suc b) (suc a)) true t)))) tt)) (le-split (suc b) (suc a) (up h))
+    more h = either-of (ltb (suc b) (suc a)) (eqb (suc b) (suc a) && true) (λ t. of-left (ltb (suc b) (suc a)) (eqb (suc a) (suc b) && true) t) (λ t. of-right (ltb (suc b) (suc a)) (eqb (suc a) (suc b) && true) (and-i (eqb (suc a) (suc b)) true (eq→eqb (sym (eqb→eq (suc b) (suc a) (and-l (eqb (suc b) (suc a)) true t)))) tt)) (le-split (suc b) (suc a) (up h))
       where
         up : b ≤ a → suc b ≤ suc a
         up h = omega arith

@@ -4,7 +4,7 @@ use mathlib.Core.Path.{_≡_, refl, sym, ap, _∙_, subst}
 use Prim.Native.Nat.{ℕ, zero, suc, _+_, _*_, _^_, _≤_, _<_}
 use native.Mathlib.Nat.{mul-pos, mul-le-mul-right, zero-lt-suc}
 use native.Mathlib.Omega.{arith}
-use mathlib.Core.Bool.{Bool, true, false, not, _||_}
+use mathlib.Core.Bool.{Bool, true, false, not}
 use lib.IntN.{ℤ, pos, negsuc, negℤ, _+ℤ_, +ℤ-assoc}
 use lib.Signed.{leZ}
 use lib.Dec.{T, leb, leb→le, le→leb, nleb→lt}
@@ -14,6 +14,7 @@ use lib.Ieee.Nearest.{div-mono}
 use lib.Ieee.Back.{round-whole}
 use lib.Ieee.Exact.{HasValue}
 use lib.Ieee.Scale.{finite}
+use Rattle.base.proofs.Test.{≡→T, of-right}
 use Rattle.interval.specs.Bounds.{inUnits, plusZero, wholeBound}
 use Rattle.interval.specs.Middle.{rounded, halfAway, wholeNear}
 use Rattle.interval.proofs.Value.{Placed, placed}
@@ -111,13 +112,9 @@ whole-mono x y f g fx fy h =
     (rounded-mono (halfAway (inUnits x)) (halfAway (inUnits y)) 1 (zero-lt-suc 0) (away-mono (inUnits x) (inUnits y) (subst T (le-units x y f g fx fy) h)))))
 
 -- ---- a whole number stays
-or-right : (a b : Bool) → b ≡ true → T (a || b)
-or-right true b e = tt
-or-right false b e = subst T (sym e) tt
-
 eq→le : (x y : Float) → eq x y ≡ true → T (le x y)
 unfolding le
-eq→le x y e = or-right (lt x y) (eq x y) e
+eq→le x y e = of-right (lt x y) (eq x y) (≡→T e)
 
 module _ (a m b : Float) (fa : T (fits binary64 a)) (fm : T (fits binary64 m)) (fb : T (fits binary64 b)) (ga : T (finite a)) (gm : T (finite m)) (gb : T (finite b)) where
   units : (x y : Float) → T (fits binary64 x) → T (fits binary64 y) → T (finite x) → T (finite y) → T (le x y) → T (leZ (inUnits x) (inUnits y))

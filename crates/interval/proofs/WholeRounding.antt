@@ -4,27 +4,28 @@ use mathlib.Core.Path.{_≡_, refl, sym, ap, _∙_, subst}
 use Prim.Native.Nat.{ℕ, zero, suc, _+_, _-_, _*_, _/_, _^_, _≤_, _<_, min}
 use native.Mathlib.Nat.{lt-of-lt-of-le, lt-of-le-of-lt, mul-assoc, mul-right-comm, mul-one, mul-pos, zero-mul, zero-lt-suc, lt-irrefl, mul-lt-mul-of-pos-right, div-div-eq-div-mul, add-div-right, div-lt-iff-lt-mul, pow-suc, not-le-of-lt, lt-of-not-le, le-of-suc-le-suc, eq-of-mul-eq-mul-right}
 use native.Mathlib.Omega.{arith}
-use mathlib.Core.Bool.{Bool, true, false, not, cond, true≢false, false≢true}
+use mathlib.Core.Bool.{Bool, true, false, not, cond, true≢false, false≢true, Bool·not-not}
 use lib.IntN.{ℤ, pos}
 use lib.Arith.{digits-div}
 use lib.Dec.{T, ltb, lt→ltb, le→leb, lit≤}
 use lib.Pow.{pow-add, pow-pos, pow-mono}
 use lib.Ieee.{Float, nan, inf, fin, Format, binary64, low, prec, odd, units, up, down, round, below, add, neg, lt, ofInt, inFloat, toUnsigned, fits}
-use lib.Ieee.Fits.{up-pos, down-pos, round-fits}
+use lib.Ieee.Fits.{down-pos, round-fits}
 use lib.Ieee.Back.{round-whole}
 use lib.Ieee.Order.{drop, kept}
 use lib.Ieee.Scale.{grid, overflow}
 use lib.Ieee.Digits.{back}
 use lib.Ieee.Exact.{HasValue, round-exact}
 use lib.Ieee.Nearest.{div-same}
-use borrow.Author.Tests.{lt-ltb}
+use borrow.Author.Tests.{lt-ltb, ltb-true, ltb-false}
+use Rattle.interval.proofs.Naturals.{at-most-zero, sum-self}
 use Rattle.interval.specs.Bounds.{signed, inUnits, plusZero, zeroAs}
 use Rattle.interval.specs.Middle.{rounded, halfAway, wholeNear}
 use Rattle.interval.proofs.Value.{zero-exp, Placed, placed, round-self}
 use Rattle.interval.proofs.Halving.{add-at}
 use Rattle.interval.proofs.Zeros.{as-neg}
-use Rattle.interval.proofs.HalfSum.{units-of, neg-rounded}
-use Rattle.interval.proofs.Compare.{lt-at, to-lt, to-ge}
+use Rattle.interval.proofs.HalfSum.{units-of, neg-rounded, value-zero}
+use Rattle.interval.proofs.Compare.{lt-at}
 
 -- 2 ^ 52 in units: from there on every number is whole
 abbrev pub edge : ℕ
@@ -47,12 +48,9 @@ small-placed (fin false m e) f g h =
     let X = p .m * 2 ^ p .j in
     record {
       at = p;
-      bound = to-lt X edge (sym (lt-at (fin false m e) (fin false 1 (pos 52)) false X false edge (2 ^ 1074) (pow-pos 1074) (p .value) (refl, refl)) ∙ h);
+      bound = ltb-true X edge (sym (lt-at (fin false m e) (fin false 1 (pos 52)) false X false edge (2 ^ 1074) (pow-pos 1074) (p .value) (refl, refl)) ∙ h);
       is-units = units-of false m e X (p .value);
     }
-
-twice : (X : ℕ) → X + X ≡ X * 2
-twice X = omega arith
 
 double-lt : (X B : ℕ) → X < B → X * 2 < B * 2
 double-lt X B h = omega arith
@@ -64,7 +62,7 @@ doubled x q =
     let X = p .m * 2 ^ p .j in
     let e : p .m * 2 ^ suc (p .j) ≡ X * 2 = ap (λ (z : ℕ). p .m * z) (pow-suc 2 (p .j)) ∙ sym (mul-assoc (p .m) (2 ^ p .j) 2) in
     let fine : p .m * 2 ^ suc (p .j) < 2 ^ 2098 = subst (λ (z : ℕ). z < 2 ^ 2098) (sym e) (lt-of-lt-of-le (double-lt X (2 ^ 52 * 2 ^ 1074) (q .bound)) (lit≤ tt)) in
-    subst (λ (z : Float). HasValue z false (X * 2) (2 ^ 1074)) (sym (add-at binary64 x x false X false X (2 ^ 1074) (pow-pos 1074) (p .value) (p .value) ∙ ap (λ (z : ℕ). round binary64 false z (2 ^ 1074)) (twice X)))
+    subst (λ (z : Float). HasValue z false (X * 2) (2 ^ 1074)) (sym (add-at binary64 x x false X false X (2 ^ 1074) (pow-pos 1074) (p .value) (p .value) ∙ ap (λ (z : ℕ). round binary64 false z (2 ^ 1074)) (sum-self X)))
     (round-exact binary64 false (X * 2) (2 ^ 1074) (p .m) (suc (p .j)) (pow-pos 1074) (p .digits) fine (ap (λ (z : ℕ). z * 2 ^ 1074) (sym e)))
 
 pub double-small : (x : Float) (q : Small x) → q .at .m * 2 ^ q .at .j * 2 < 2 ^ 53 * 2 ^ 1074
@@ -194,7 +192,7 @@ near-small (fin s m e) q f n h =
 
 not-below : (s : Bool) (X : ℕ) → below false 0 s X ≡ true → below s X false edge ≡ false → edge ≤ X
 not-below true X h k = absurd (false≢true h)
-not-below false X h k = to-ge X edge k
+not-below false X h k = ltb-false X edge k
 
 pub near-large : (x : Float) → T (fits binary64 x) → lt (fin false 0 (pos 0)) x ≡ true → lt x (fin false 1 (pos 52)) ≡ false → x ≡ wholeNear x
 near-large nan f h k = absurd (no-nan h)
@@ -238,11 +236,11 @@ unfolding lt neg
 above-neg nan h = absurd (false≢true h)
 above-neg (inf true) h = refl
 above-neg (inf false) h = absurd (false≢true h)
-above-neg (fin true m e) h = ap (λ (z : ℕ). ltb z (m * up e * 1)) (zero-mul (down e)) ∙ lt-ltb 0 (m * up e * 1) (some (m * up e * 1) (0 * 1 * down e) (zero-mul (down e)) (to-lt 0 (m * up e * 1 + 0 * 1 * down e) h))
+above-neg (fin true m e) h = ap (λ (z : ℕ). ltb z (m * up e * 1)) (zero-mul (down e)) ∙ lt-ltb 0 (m * up e * 1) (some (m * up e * 1) (0 * 1 * down e) (zero-mul (down e)) (ltb-true 0 (m * up e * 1 + 0 * 1 * down e) h))
   where
     some : (a b : ℕ) → b ≡ 0 → 0 < a + b → 0 < a
     some a b e h = omega arith
-above-neg (fin false m e) h = absurd (none (m * up e * 1) (0 * 1 * down e) (zero-mul (down e)) (to-lt (m * up e * 1) (0 * 1 * down e) h))
+above-neg (fin false m e) h = absurd (none (m * up e * 1) (0 * 1 * down e) (zero-mul (down e)) (ltb-true (m * up e * 1) (0 * 1 * down e) h))
   where
     none : (a b : ℕ) → b ≡ 0 → a < b → ⊥
     none a b e h = omega arith
@@ -260,10 +258,6 @@ near-neg (fin s m e) f = turned ∙ sym (whole-at s m e p)
     X : ℕ
     X = p .m * 2 ^ p .j
 
-    twice-not : (s : Bool) → not (not s) ≡ s
-    twice-not true = refl
-    twice-not false = refl
-
     negated : neg (fin s m e) ≡ fin (not s) m e
     negated = unfold neg in refl
 
@@ -272,14 +266,11 @@ near-neg (fin s m e) f = turned ∙ sym (whole-at s m e p)
         ap (λ (z : Float). plusZero (neg z)) (ap wholeNear negated ∙ whole-at (not s) m e (neg-placed s m e p))
         ∙ as-neg false false (round binary64 (not s) (halfUp X) 1)
         ∙ ap plusZero (negated-round binary64 (not s) (halfUp X) 1)
-        ∙ ap (λ (z : Bool). plusZero (round binary64 z (halfUp X) 1)) (twice-not s)
+        ∙ ap (λ (z : Bool). plusZero (round binary64 z (halfUp X) 1)) (Bool·not-not s)
 
 pub at-zero : (s : Bool) (X : ℕ) → below false 0 s X ≡ false → below s X false 0 ≡ false → X ≡ 0
-at-zero false X h k = none X (to-ge 0 X h)
-  where
-    none : (X : ℕ) → X ≤ 0 → X ≡ 0
-    none X h = omega arith
-at-zero true X h k = none X (to-ge 0 (X + 0) k)
+at-zero false X h k = at-most-zero X (ltb-false 0 X h)
+at-zero true X h k = none X (ltb-false 0 (X + 0) k)
   where
     none : (X : ℕ) → X + 0 ≤ 0 → X ≡ 0
     none X h = omega arith
@@ -289,13 +280,6 @@ unfolding round zeroAs
 zero-whole true = refl
 zero-whole false = refl
 
-value-nought : (x : Float) (s : Bool) (c : ℕ) → 0 < c → HasValue x s 0 c → plusZero x ≡ fin false 0 (pos 0)
-unfolding zeroAs
-value-nought nan s c C v = absurd v
-value-nought (inf t) s c C v = absurd v
-value-nought (fin t zero e) s c C v = refl
-value-nought (fin t (suc m) e) s c C v = absurd (lt-irrefl 0 (subst (λ (z : ℕ). 0 < z) (v .1 ∙ zero-mul (down e)) (mul-pos (mul-pos (zero-lt-suc m) (up-pos e)) C)))
-
 -- what is neither above nor below zero
 pub near-zero : (x : Float) → T (fits binary64 x) → lt (fin false 0 (pos 0)) x ≡ false → lt x (fin false 0 (pos 0)) ≡ false → plusZero x ≡ wholeNear x
 near-zero nan f h k = unfold wholeNear zeroAs in refl
@@ -304,5 +288,5 @@ near-zero (fin s m e) f h k =
     let p = placed binary64 s m e f in
     let X = p .m * 2 ^ p .j in
     let z : X ≡ 0 = at-zero s X (sym (lt-at (fin false 0 (pos 0)) (fin s m e) false 0 s X (2 ^ 1074) (pow-pos 1074) (refl, refl) (p .value)) ∙ h) (sym (lt-at (fin s m e) (fin false 0 (pos 0)) s X false 0 (2 ^ 1074) (pow-pos 1074) (p .value) (refl, refl)) ∙ k) in
-    value-nought (fin s m e) s (2 ^ 1074) (pow-pos 1074) (subst (λ (y : ℕ). HasValue (fin s m e) s y (2 ^ 1074)) z (p .value))
+    value-zero (fin s m e) s (2 ^ 1074) (pow-pos 1074) (subst (λ (y : ℕ). HasValue (fin s m e) s y (2 ^ 1074)) z (p .value))
     ∙ sym (whole-at s m e p ∙ ap (λ (y : ℕ). plusZero (round binary64 s (halfUp y) 1)) z ∙ zero-whole s)

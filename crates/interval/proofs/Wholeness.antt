@@ -1,8 +1,8 @@
 -- What is whole: x is exactly where it equals its rounding to a whole number (`whole-is`); so is every rounding (`near-whole`) and
 -- every number from 2 ^ 52 on (`large-whole`). Assumes nothing.
-use mathlib.Core.Path.{_≡_, refl, sym, ap, _∙_, subst}
+use mathlib.Core.Path.{_≡_, refl, sym, ap, _∙_}
 use Prim.Native.Nat.{ℕ, zero, suc, _+_, _-_, _*_, _/_, _%_, _^_, _≤_, _<_}
-use native.Mathlib.Nat.{zero-mul, mul-assoc, mul-pos, add-zero, mul-mod-left, div-add-mod', zero-lt-suc, lt-irrefl}
+use native.Mathlib.Nat.{zero-mul, mul-assoc, add-zero, mul-mod-left, div-add-mod'}
 use mathlib.Core.Bool.{Bool, true, false, not, _&&_, _||_, Bool·beq}
 use lib.IntN.{ℤ, pos, natAbs}
 use lib.Dec.{T, leb, eqb, eqb→eq, eqb-refl, leb→le, nleb→lt}
@@ -14,34 +14,29 @@ use lib.Ieee.Digits.{back}
 use lib.Ieee.Back.{round-whole}
 use lib.Ieee.Exact.{HasValue}
 use lib.Ieee.Scale.{finite}
-use Rattle.base.proofs.Test.{≡→T}
+use Rattle.base.proofs.Test.{≡→T, same-tests, and-implied, or-right}
+use Rattle.interval.proofs.Naturals.{first-zero}
 use Rattle.interval.specs.Bounds.{signed, inUnits, plusZero, zeroAs, wholeBound}
 use Rattle.interval.specs.Middle.{wholeNear}
 use Rattle.interval.proofs.Value.{Placed, placed}
-use Rattle.interval.proofs.Halving.{both-ways}
 use Rattle.interval.proofs.Zeros.{as-whole}
 use Rattle.interval.proofs.HalfSum.{units-of}
 use Rattle.interval.proofs.Compare.{eq-at}
 use Rattle.interval.proofs.WholeRounding.{halfUp, edge, whole-at, half-small, whole-half, exponent, big-is}
 use Rattle.interval.proofs.Difference.{scale}
 
-abs-signed : (s : Bool) (n : ℕ) → natAbs (signed s n) ≡ n
+pub abs-signed : (s : Bool) (n : ℕ) → natAbs (signed s n) ≡ n
 abs-signed false n = refl
 abs-signed true zero = refl
 abs-signed true (suc n) = refl
 
-like : (b c : Bool) → T c → b && c ≡ b
-like true true t = refl
-like false true t = refl
-like b false t = absurd t
+-- a number compares with itself by its size alone
+like : (b c : Bool) → c ≡ true → b && c ≡ b
+like b c e = and-implied b c (λ k. e)
 
-self-level : (s : Bool) (n : ℕ) → T (Bool·beq s s || eqb n 0)
-self-level true n = tt
-self-level false n = tt
-
-or-right : (a b : Bool) → T b → T (a || b)
-or-right true b t = tt
-or-right false b t = t
+self-level : (s : Bool) (n : ℕ) → (Bool·beq s s || eqb n 0) ≡ true
+self-level true n = refl
+self-level false n = refl
 
 -- +0 in place of a zero compares alike
 plus-eq : (y x : Float) (s : Bool) (h X U : ℕ) → 0 < U → HasValue y s (h * U) U → HasValue x s X U → eq (plusZero y) x ≡ eqb (h * U) X
@@ -49,16 +44,12 @@ unfolding zeroAs
 plus-eq nan x s h X U C v w = absurd v
 plus-eq (inf t) x s h X U C v w = absurd v
 plus-eq (fin t zero e) x s h X U C v w =
-    let z : h * U ≡ 0 = none (h * U) (down e) (down-pos e) (sym (v .1) ∙ ap (λ (k : ℕ). k * U) (zero-mul (up e)) ∙ zero-mul U) in
-    eq-at (fin false 0 (pos 0)) x false 0 s X U C (refl, zero-mul U) w ∙ like (eqb 0 X) (Bool·beq false s || eqb 0 0) (or-right (Bool·beq false s) true tt) ∙ ap (λ (k : ℕ). eqb k X) (sym z)
-  where
-    none : (a b : ℕ) → 0 < b → a * b ≡ 0 → a ≡ 0
-    none zero b h e = refl
-    none (suc a) b h e = absurd (lt-irrefl 0 (subst (λ (k : ℕ). 0 < k) e (mul-pos (zero-lt-suc a) h)))
+    let z : h * U ≡ 0 = first-zero (h * U) (down e) (down-pos e) (sym (v .1) ∙ ap (λ (k : ℕ). k * U) (zero-mul (up e)) ∙ zero-mul U) in
+    eq-at (fin false 0 (pos 0)) x false 0 s X U C (refl, zero-mul U) w ∙ like (eqb 0 X) (Bool·beq false s || eqb 0 0) (or-right (Bool·beq false s) true refl) ∙ ap (λ (k : ℕ). eqb k X) (sym z)
 plus-eq (fin t (suc m) e) x s h X U C v w = eq-at (fin t (suc m) e) x s (h * U) s X U C v w ∙ like (eqb (h * U) X) (Bool·beq s s || eqb (h * U) 0) (self-level s (h * U))
 
 whole-mult : (X : ℕ) → eqb (halfUp X * 2 ^ 1074) X ≡ eqb (X % 2 ^ 1074) 0
-whole-mult X = both-ways (eqb (halfUp X * 2 ^ 1074) X) (eqb (X % 2 ^ 1074) 0)
+whole-mult X = same-tests (eqb (halfUp X * 2 ^ 1074) X) (eqb (X % 2 ^ 1074) 0)
     (λ (t : T (eqb (halfUp X * 2 ^ 1074) X)). eq→eqb (ap (λ (z : ℕ). z % 2 ^ 1074) (sym (eqb→eq (halfUp X * 2 ^ 1074) X t)) ∙ mul-mod-left (halfUp X) (2 ^ 1074)))
     (λ (t : T (eqb (X % 2 ^ 1074) 0)).
     let e : X ≡ X / 2 ^ 1074 * 2 ^ 1074 = sym (div-add-mod' X (2 ^ 1074)) ∙ ap (λ (z : ℕ). X / 2 ^ 1074 * 2 ^ 1074 + z) (eqb→eq (X % 2 ^ 1074) 0 t) ∙ add-zero (X / 2 ^ 1074 * 2 ^ 1074) in

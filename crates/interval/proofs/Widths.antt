@@ -3,7 +3,6 @@
 use mathlib.Core.Path.{_≡_, refl, sym, ap, _∙_, subst}
 use Prim.Native.Nat.{ℕ, zero, suc, _+_, _-_, _*_, _/_, _%_, _^_, _≤_, _<_}
 use native.Mathlib.Nat.{eq-of-mul-eq-mul-right, mul-comm, mul-sub, add-mul, zero-mul, mul-one, mul-pos, zero-lt-suc, div-add-mod', add-zero, lt-irrefl}
-use native.Mathlib.Omega.{arith}
 use mathlib.Core.Bool.{Bool, true, false, _&&_, _||_, Bool·beq, false≢true}
 use lib.IntN.{ℤ, pos, negℤ, natAbs, _+ℤ_, _-ℤ_, +ℤ-comm, negℤ-negℤ}
 use lib.Signed.{leZ}
@@ -14,13 +13,14 @@ use lib.Ieee.Fits.{eq→eqb, and-l, down-pos, up-pos}
 use lib.Ieee.Bits.{is-false}
 use lib.Ieee.Scale.{round-same}
 use lib.Ieee.Scale.{finite}
-use Rattle.base.proofs.Test.{≡→T, and-left}
+use Rattle.base.proofs.Test.{≡→T, and-left, same-tests}
+use Rattle.interval.proofs.Naturals.{at-most-zero}
+use Rattle.interval.proofs.Wholeness.{abs-signed}
 use Rattle.interval.specs.declared.Interval.{Interval}
 use Rattle.interval.specs.Bounds.{signed, inUnits, plusZero, zeroAs, wholeBound, legalBounds, legalInterval, InFormat}
 use Rattle.interval.specs.Middle.{rounded}
 use Rattle.interval.specs.Cuts.{widthIs}
 use Rattle.interval.proofs.Value.{placed}
-use Rattle.interval.proofs.Halving.{both-ways}
 use Rattle.interval.proofs.HalfSum.{units-of, plus-neg}
 use Rattle.interval.proofs.Legality.{legal-bounds, whole-ends}
 use Rattle.interval.proofs.UnitsOrder.{sub-ge, le-units, neg-order}
@@ -31,11 +31,6 @@ pub record Multiple (x : Float) : Type 0 where
   pub sign : Bool
   pub times : ℕ
   pub is : inUnits x ≡ signed sign (times * 2 ^ 1074)
-
-abs-signed : (s : Bool) (n : ℕ) → natAbs (signed s n) ≡ n
-abs-signed false n = refl
-abs-signed true zero = refl
-abs-signed true (suc n) = refl
 
 pub multiple : (x : Float) → T (fits binary64 x) → T (finite x) → T (wholeBound x) → Multiple x
 unfolding wholeBound
@@ -50,10 +45,7 @@ multiple (fin s m e) f g w =
 
 -- ---- the difference of two multiples
 pub both-zero : (a b : ℕ) → T (leZ (pos a) (negℤ (pos b))) → (a ≡ 0) × (b ≡ 0)
-both-zero a zero h = (flat a (leb→le a 0 h), refl)
-  where
-    flat : (a : ℕ) → a ≤ 0 → a ≡ 0
-    flat a h = omega arith
+both-zero a zero h = (at-most-zero a (leb→le a 0 h), refl)
 both-zero a (suc b) h = absurd h
 
 sub-mult : (p q U : ℕ) → q * U - p * U ≡ (q - p) * U
@@ -80,7 +72,7 @@ plus-test (fin s zero e) n d = zero-no false (0 * 1 * down d) (suc n * up d * 1)
 
 units-eq : (d k U : ℕ) → 0 < U → eqb (d * U) (k * U) ≡ eqb d k
 units-eq d k U h =
-    both-ways (eqb (d * U) (k * U)) (eqb d k)
+    same-tests (eqb (d * U) (k * U)) (eqb d k)
     (λ (t : T (eqb (d * U) (k * U))). eq→eqb (eq-of-mul-eq-mul-right U h d k (eqb→eq (d * U) (k * U) t)))
     (λ (t : T (eqb d k)). eq→eqb (ap (λ (z : ℕ). z * U) (eqb→eq d k t)))
 

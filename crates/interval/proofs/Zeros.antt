@@ -11,7 +11,7 @@ use lib.Ieee.{Float, nan, inf, fin, binary64, up, down, neg, below, level, lt, e
 use lib.Ieee.Fits.{up-pos, down-pos}
 use lib.Ieee.Scale.{finite}
 use borrow.Author.Tests.{lt-ltb, le-ltb, ne-eqb}
-use Rattle.base.proofs.Test.{and-left}
+use Rattle.base.proofs.Test.{and-left, and-implied, or-right}
 use Rattle.interval.specs.Bounds.{signed, inUnits, zeroAs, wholeBound}
 
 -- ---- the test of a zero
@@ -62,7 +62,7 @@ as-neg t u (fin s (suc m) e) = refl
 zero-over : (d : ℕ) → 0 < d → 0 / d ≡ 0
 zero-over d h = ap (λ (z : ℕ). z / d) (sym (zero-mul d)) ∙ mul-div-cancel 0 h
 
-signed-zero : (s : Bool) → signed s 0 ≡ pos 0
+pub signed-zero : (s : Bool) → signed s 0 ≡ pos 0
 signed-zero true = refl
 signed-zero false = refl
 
@@ -123,19 +123,11 @@ over-zero false true b = refl
 over-zero true false b = ap (λ (z : ℕ). ltb 0 z) (add-zero b)
 over-zero true true b = refl
 
-like : (a b : Bool) → (a ≡ true → b ≡ true) → a && b ≡ a
-like true b h = h refl
-like false b h = refl
-
-or-right : (a b : Bool) → b ≡ true → a || b ≡ true
-or-right true b h = refl
-or-right false b h = h
-
 level-zero : (s r : Bool) (b : ℕ) → level s 0 r b ≡ eqb 0 b
-level-zero s r b = like (eqb 0 b) (Bool·beq s r || true) (λ e. or-right (Bool·beq s r) true refl)
+level-zero s r b = and-implied (eqb 0 b) (Bool·beq s r || true) (λ e. or-right (Bool·beq s r) true refl)
 
 level-over : (r s : Bool) (b : ℕ) → level r b s 0 ≡ eqb b 0
-level-over r s b = like (eqb b 0) (Bool·beq r s || eqb b 0) (or-right (Bool·beq r s) (eqb b 0))
+level-over r s b = and-implied (eqb b 0) (Bool·beq r s || eqb b 0) (or-right (Bool·beq r s) (eqb b 0))
 
 eqb-turn : (b : ℕ) → eqb b 0 ≡ eqb 0 b
 eqb-turn zero = refl

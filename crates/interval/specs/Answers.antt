@@ -34,6 +34,7 @@ piecesFrom (p ∷ []) = C.One p
 piecesFrom (p ∷ q ∷ []) = C.Two p q
 piecesFrom (p ∷ q ∷ r ∷ l) = C.Three p q r
 
+-- the pieces, or 3 where the interval is not legal
 abbrev pub piecesAt : Bool → List Interval → Pieces
 piecesAt true l = piecesFrom l
 piecesAt false l = C.Refused R.Parameter

@@ -43,9 +43,11 @@ zeroAs s (inf t) = inf t
 zeroAs s (fin t zero e) = fin s 0 (pos 0)
 zeroAs s (fin t (suc m) e) = fin t (suc m) e
 
+-- a zero is +0: an upper bound, a midpoint, a cut point
 abbrev pub plusZero : Float → Float
 plusZero x = zeroAs false x
 
+-- a zero is -0: a lower bound
 abbrev pub minusZero : Float → Float
 minusZero x = zeroAs true x
 

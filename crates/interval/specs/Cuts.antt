@@ -20,10 +20,11 @@ subdivisible x integer = ne (x .lower) (wholeIf integer (midpointOf x)) && ne (x
 unfoldable pub widthIs : ℕ → Interval → Bool
 widthIs k x = finite (x .lower) && finite (x .upper) && eqb (natAbs (inUnits (x .upper) -ℤ inUnits (x .lower))) (k * 2 ^ 1074)
 
--- the bounds a and b, and the piece [a, b], put
+-- the bounds a and b
 abbrev pub pairOf : Float → Float → Interval
 pairOf a b = record { lower = a; upper = b }
 
+-- the piece [a, b], put
 abbrev pub spanOf : Float → Float → Interval
 spanOf a b = putInterval (pairOf a b)
 
@@ -37,6 +38,7 @@ unfoldable pub unlikeNext : Interval → List Interval → List Interval
 unlikeNext p [] = []
 unlikeNext p (q ∷ l) = cond (sameInterval p q) (unlikeNext p l) (q ∷ unlikeNext q l)
 
+-- the pieces without a repeat next to its equal
 abbrev pub deduped : List Interval → List Interval
 deduped [] = []
 deduped (p ∷ l) = p ∷ unlikeNext p l
@@ -59,6 +61,7 @@ narrowed p = cond (widthIs 2 p && subdivisible p true) (spanOf (midpointOf p) (m
 unfoldable pub thinned : Interval → List Interval
 thinned p = cond (widthIs 1 p) [] (narrowed p ∷ [])
 
+-- what is left of all pieces
 abbrev pub thinnedAll : List Interval → List Interval
 thinnedAll [] = []
 thinnedAll (p ∷ l) = thinned p ++ thinnedAll l

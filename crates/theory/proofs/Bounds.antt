@@ -1,13 +1,16 @@
 -- The bound for pictures with x or y and no parameter, for every level L: once the finished steps reach the places above L, no queued block is
 -- above L. At the pixel's level: no queued block covers more than one pixel. At the floor: the queue is empty. Squares and strips. Assumes nothing.
-use mathlib.Core.Path.{_≡_, refl, ap, _∙_, subst}
+use mathlib.Core.Path.{_≡_, refl, sym, ap, _∙_, subst}
 use mathlib.Core.Bool.{Bool}
 use mathlib.Core.List.{List, [], _∷_}
 use Prim.Native.Nat.{ℕ, suc, _+_, _*_, _^_, _≤_, _<_}
 use native.Mathlib.Nat.{mul-le-mul-right, mul-pos}
 use native.Mathlib.Bridge.{le-prop}
 use native.Mathlib.Omega.{arith}
+use lib.Dec.{T}
 use lib.Pow.{pow-pos, pow-add}
+use Rattle.base.proofs.Test.{both-of}
+use Rattle.base.proofs.AxisLaws.{places-over, covers-start}
 use Rattle.theory.specs.Lists.{Every}
 use Rattle.theory.specs.Runs.{Snapshot, queuedBy, FinishedSteps, no-step, one-more, EveryStep}
 use Rattle.theory.specs.Demand3.{CoversAtMostOne}
@@ -16,8 +19,6 @@ use Rattle.theory.specs.Shapes.{PixelIn, coversAlong, coversPixel, cover
 use Rattle.theory.proofs.ListLaws.{every-append, every-mono, every-of-map}
 use Rattle.theory.proofs.Potential.{sunk}
 use Rattle.theory.proofs.Sums.{sum-cong}
-use Rattle.theory.proofs.PlaceLaws.{places-over}
-use Rattle.theory.proofs.AxisLaws.{both-of, covers-one}
 use Rattle.theory.proofs.ChildPlaces.{quarters-lower, halves-lower}
 use Rattle.theory.proofs.PlaceCount.{root-cost, strip-root-cost}
 
@@ -47,8 +48,10 @@ unfolding CoversAtMostOne coversPixel
 low-covers-one w h px placeOf b l p q a c =
     let (ax, ay) = both-of (coversAlong px (placeOf b .level) (placeOf b .x) (p .x)) (coversAlong px (placeOf b .level) (placeOf b .y) (p .y)) a in
     let (cx, cy) = both-of (coversAlong px (placeOf b .level) (placeOf b .x) (q .x)) (coversAlong px (placeOf b .level) (placeOf b .y) (q .y)) c in
-    same-pixel p q (covers-one px (placeOf b .level) (placeOf b .x) (p .x) (q .x) l ax cx)
-    (covers-one px (placeOf b .level) (placeOf b .y) (p .y) (q .y) l ay cy)
+    same-pixel p q (one (placeOf b .x) (p .x) (q .x) ax cx) (one (placeOf b .y) (p .y) (q .y) ay cy)
+  where
+    one : (i p q : ℕ) → T (coversAlong px (placeOf b .level) i p) → T (coversAlong px (placeOf b .level) i q) → p ≡ q
+    one i p q a c = covers-start px (placeOf b .level) i p l a ∙ sym (covers-start px (placeOf b .level) i q l c)
 
 none-left : {Block : Type 0} (placeOf : Block → Place) (floor : ℕ) (q : List Block) → Every (λ b. floor < placeOf b .level) q
     → Every (λ b. placeOf b .level ≤ floor) q → q ≡ []

@@ -9,10 +9,11 @@ use native.Mathlib.Decide.{decLe}
 use native.Mathlib.Omega.{arith}
 use lib.Dec.{T}
 use lib.Pow.{pow-pos}
+use Rattle.base.proofs.Test.{both-of, of-both}
+use Rattle.base.proofs.AxisLaws.{begins-over, begins-under, reaches-covers, half-covers}
 use Rattle.theory.specs.Lists.{Every}
 use Rattle.theory.specs.Levels.{Place, placeAt}
 use Rattle.theory.specs.Shapes.{PixelIn, beginsIn, coversAlong, coversPixel, HalfOf, listedIf, quartersAt, quarters, halvesAt, halvesInX}
-use Rattle.theory.proofs.AxisLaws.{both-of, of-both, reaches-covers, begins-over, begins-under, half-covers}
 
 listed-every : (P : Place → Type 0) (k : Bool) (c : Place) (r : List Place) → P c → Every P r → Every P (listedIf k c r)
 unfolding Every listedIf

@@ -6,9 +6,9 @@ use native.Mathlib.Nat.{pow-suc, mul-le-mul-right, le-of-mul-le-mul-right}
 use native.Mathlib.Decide.{decLe}
 use native.Mathlib.Omega.{arith}
 use lib.Pow.{pow-pos}
+use Rattle.base.proofs.AxisLaws.{half-low, half-high}
 use Rattle.theory.specs.Shapes.{HalfOf}
 use Rattle.theory.specs.Positions.{Ruler, LiesBetween, SharedEdges, Fraction, AtMost, exactEdge, LiesExactly, InPixelAlong}
-use Rattle.theory.proofs.AxisLaws.{half-low, half-high}
 
 module _ {R : Type 0} (Le : R → R → Type 0) (low high : ℕ → ℕ → R) where
   pub edges-ruler : (px : ℕ) → SharedEdges Le low high px → Ruler px (LiesBetween Le low high)
@@ -26,7 +26,7 @@ module _ {R : Type 0} (Le : R → R → Type 0) (low high : ℕ → ℕ → R) w
   }
 
 -- fractions are ordered
-at-most-total : (a b : Fraction) → AtMost a b ⊎ AtMost b a
+pub at-most-total : (a b : Fraction) → AtMost a b ⊎ AtMost b a
 unfolding AtMost
 at-most-total a b = elim (decLe (a .num * b .den) (b .num * a .den)) [ yes k ↦ inl k | no k ↦ inr (omega arith) ]
 

@@ -10,15 +10,14 @@ use lib.Dec.{T, lit<}
 use lib.IntN.{ℤ, pos, negsuc, _*ℤ_}
 use lib.Signed.{_≤ℤ_, leZ-yes, <ℤ-irrefl}
 use Rattle.theory.specs.Lists.{Every, Some}
-use Rattle.theory.specs.Cells.{isTrue, named, standingReads}
+use Rattle.theory.specs.Cells.{named, standingReads}
 use Rattle.theory.specs.Runs.{Snapshot, queuedBy, AcceptedSetup, AllNarrower, cellAfter, FinishedStep, FinishedSteps, no-step, one-more, EveryStep}
 use Rattle.theory.specs.Demand3.{pixelReads, AllWhole, GivesUpAlike, WholePicture}
 use Rattle.theory.specs.Colours.{Question, HasSolution, Holds, NoneIn, HoldsAll, saidFalse, denied, Turn, turn, childOf, inTurn, afterwards, Cutting, Follows, NotAllTrue, SkipRule, LosesNothing, Judged, EveryTurn, FalseRight}
-use Rattle.theory.specs.Positions.{Fraction, AtMost}
 use Rattle.theory.specs.Cuts.{End, minusInf, finite, plusInf, Span, span, pointSpan, firstPieces, laterPieces, FromEnd, UpToEnd, InSpan, OverEnd, UnderEnd, Owes, isStep, hasWidth1, hasWidth2, withoutWidth1, nextEnd, middleIfWidth2, sameEnd, unlikeBefore, noRepeats, firstIntegers, laterIntegers}
 use Rattle.theory.proofs.ListLaws.{some-mono}
 use Rattle.theory.proofs.IntegerLaws.{less-trans}
-use Rattle.theory.proofs.Edges.{exact-edges}
+use Rattle.theory.proofs.ExampleSteps.{not-true}
 use Rattle.theory.proofs.Theorems as Promise
 
 abbrev from-to : ℕ → ℕ → Span ℤ
@@ -131,9 +130,6 @@ unfoldable run : FinishedSteps covers false 3 s₀ s₃
 run = one-more (one-more (one-more no-step (step 0 (from-to 0 0) (from-to 0 3 ∷ from-to 3 3 ∷ []))) (step 1 (from-to 0 3) (from-to 3 3 ∷ [])))
     (step 2 (from-to 3 3) [])
 
-not-true : ¬ (named 2 ≡ isTrue)
-not-true e = let z : _≡_ {A = ℕ} 0 1 = cc in omega arith
-
 unfoldable judged : EveryStep covers false (Judged covers cutting false) run
 unfolding EveryStep run step Every Follows SkipRule NotAllTrue childOf inTurn afterwards InSpan FromEnd UpToEnd laterIntegers laterPieces isStep nextEnd hasWidth1 hasWidth2 withoutWidth1 middleIfWidth2
 judged = (
@@ -145,7 +141,7 @@ judged = (
         turns = no 0 ∷ no 0 ∷ no 0 ∷ [];
         each-child = refl;
         by-verdict = (refl, (refl, (refl, tt)));
-        skip-rule = ((tt, tt, not-true), ((tt, tt, not-true), ((tt, tt, not-true), tt)));
+        skip-rule = ((tt, tt, not-true 2), ((tt, tt, not-true 2), ((tt, tt, not-true 2), tt)));
         these-events = refl;
       },
     ),
@@ -154,7 +150,7 @@ judged = (
       turns = no 1 ∷ no 2 ∷ [];
       each-child = refl;
       by-verdict = (refl, (refl, tt));
-      skip-rule = ((tt, tt, not-true), ((tt, tt, not-true), tt));
+      skip-rule = ((tt, tt, not-true 2), ((tt, tt, not-true 2), tt));
       these-events = refl;
     },
   ),
@@ -163,7 +159,7 @@ judged = (
     turns = no 3 ∷ no 3 ∷ no 3 ∷ [];
     each-child = refl;
     by-verdict = (refl, (refl, (refl, tt)));
-    skip-rule = ((tt, tt, not-true), ((tt, tt, not-true), ((tt, tt, not-true), tt)));
+    skip-rule = ((tt, tt, not-true 2), ((tt, tt, not-true 2), ((tt, tt, not-true 2), tt)));
     these-events = refl;
   },
 )
@@ -199,7 +195,3 @@ white = Promise.white-means-no covers cutting question false loses-nothing accep
 alike : EveryStep covers false (GivesUpAlike covers false) run
 alike = Promise.alike-without-xy covers false accepted run (unfold EveryStep run step WholePicture AllWhole in
     (((tt, (λ p. tt, tt)), (λ p. tt, tt)), (λ p. tt, tt)))
-
--- a real parameter, over fractions: they are in order, so wherever it is cut its pieces hold what it holds
-real-pieces : (c : Fraction) (v : Span Fraction) (x : Fraction) → InSpan AtMost v x → Some (λ u. InSpan AtMost u x) (laterPieces c v)
-real-pieces = Promise.later-real-loses-nothing AtMost (exact-edges 0 .total)

@@ -3,11 +3,10 @@
 -- siblings skipped, two find no direction, the rest are denied. Both bounds are reached to the step.
 use mathlib.Core.Path.{_≡_, refl, sym, ap, subst}
 use mathlib.Core.Bool.{Bool, false, cond}
-use mathlib.Core.List.{List, [], _∷_, _++_, map}
-use Prim.Native.Nat.{ℕ, zero, suc, _+_, _<_}
+use mathlib.Core.List.{List, [], _∷_, _++_}
+use Prim.Native.Nat.{ℕ, zero, suc, _<_}
 use native.Mathlib.Omega.{arith}
 use lib.Dec.{T, ltb, lit<}
-use lib.ListN.{length}
 use Rattle.theory.specs.Lists.{Every}
 use Rattle.theory.specs.Cells.{Standing, isTrue, givenUp, named, renamed, afterGivingUp}
 use Rattle.theory.specs.Runs.{Snapshot, queuedBy, AcceptedSetup, Narrower, cellAfter, FinishedStep, FinishedSteps, no-step, one-more, EveryStep}
@@ -15,6 +14,7 @@ use Rattle.theory.specs.Levels.{Place, placeAt}
 use Rattle.theory.specs.Shapes.{PixelIn, beginsIn, coversAlong, coversPixel, coversByPlace, isListed, listedIf, quartersAt, quarters}
 use Rattle.theory.specs.Colours.{saidFalse, saidTrue, saidOpen, skipped, denied, marked, queuedAs, stuck, Turn, turn, childOf, inTurn, afterwards, Cutting, Follows, AllTrue, NotAllTrue, SkipRule, Judged}
 use Rattle.theory.proofs.Bounds.{same-pixel}
+use Rattle.theory.proofs.ExampleSteps.{Played, asStep, asJudged, not-true}
 use Rattle.theory.proofs.Theorems as Promise
 
 -- ---- the picture
@@ -121,42 +121,16 @@ s₅ = snapshot 5 (placeAt 2 0 1 ∷ []) isTrue givenUp (named 5)
 abbrev pub s₆ : State
 s₆ = snapshot 6 [] isTrue givenUp (named 5)
 
--- a step, with all that is to be shown of it
-pub record Played (s s′ : State) : Type 0 where
-  pub taken-block : Place
-  pub others : List Place
-  pub turns : List (Turn Place)
-  pub in-front : s .queue ≡ taken-block ∷ others
-  pub above-floor : zero < taken-block .level
-  pub each-child : map childOf turns ≡ quarters 1 3 1 taken-block
-  pub by-verdict : Every (Follows cutting) turns
-  pub skip-rule : SkipRule covers (s .cells) turns
-  pub counted : s′ .taken ≡ suc (s .taken)
-  pub queued : s′ .queue ≡ others ++ queuedBy (inTurn turns ++ afterwards turns)
-  pub changed : (p : Pixel)
-      → s′ .cells p ≡ cellAfter covers false (s .taken) taken-block (s .taken + length (s .queue)) (inTurn turns ++ afterwards turns) p (s .cells p)
+abbrev pub Step : State → State → Type 0
+Step = Played covers cutting false
 
-abbrev pub step : {s s′ : State} → Played s s′ → FinishedStep covers false s s′
-step y =
-    record {
-      front = y .taken-block;
-      rest = y .others;
-      events = inTurn (y .turns) ++ afterwards (y .turns);
-      at-front = y .in-front;
-      narrower = Promise.turns-stay-inside covers cutting same-place (y .taken-block) (y .turns) (y .by-verdict) (rw (y .each-child) (inside (y .taken-block)));
-      taken′ = y .counted;
-      queue′ = y .queued;
-      cells′ = y .changed;
-    }
+abbrev pub step : {s s′ : State} → Step s s′ → FinishedStep covers false s s′
+step y = asStep covers cutting false same-place y
 
-abbrev pub judge : {s s′ : State} (y : Played s s′) → Judged covers cutting false s s′ (step y)
-judge y = record { checked = y .above-floor; turns = y .turns; each-child = y .each-child; by-verdict = y .by-verdict; skip-rule = y .skip-rule; these-events = refl }
+abbrev pub judge : {s s′ : State} (y : Step s s′) → Judged covers cutting false s s′ (step y)
+judge y = asJudged covers cutting false same-place y
 
--- a cell that names a block is not True
-pub not-true : (n : ℕ) → ¬ (named n ≡ isTrue)
-not-true n e = let z : _≡_ {A = ℕ} 0 1 = cc in omega arith
-
-unfoldable pub played₁ : Played s₀ s₁
+unfoldable pub played₁ : Step s₀ s₁
 unfolding pixel₀ pixel₁ pixel₂ childOf quarters quartersAt listedIf isListed beginsIn Every Follows inTurn afterwards queuedBy
     cellAfter coversPixel coversAlong renamed afterGivingUp SkipRule AllTrue NotAllTrue
 played₁ =
@@ -165,7 +139,8 @@ played₁ =
       others = [];
       turns = turns₁;
       in-front = refl;
-      above-floor = lit< tt;
+      checked = lit< tt;
+      narrower = inside (placeAt 0 0 3);
       each-child = refl;
       by-verdict = ((refl, refl), ((refl, refl), tt));
       skip-rule = ((pixel₀, tt, not-true 0), ((pixel₂, tt, not-true 0), tt));
@@ -174,7 +149,7 @@ played₁ =
       changed = each-pixel (λ p. s₁ .cells p ≡ cellAfter covers false 0 (placeAt 0 0 3) 1 (inTurn turns₁ ++ afterwards turns₁) p (s₀ .cells p)) refl refl refl;
     }
 
-unfoldable pub played₂ : Played s₁ s₂
+unfoldable pub played₂ : Step s₁ s₂
 unfolding pixel₀ pixel₁ pixel₂ childOf quarters quartersAt listedIf isListed beginsIn Every Follows inTurn afterwards queuedBy
     cellAfter coversPixel coversAlong renamed afterGivingUp SkipRule AllTrue NotAllTrue
 played₂ =
@@ -183,7 +158,8 @@ played₂ =
       others = placeAt 1 0 2 ∷ [];
       turns = turns₂;
       in-front = refl;
-      above-floor = lit< tt;
+      checked = lit< tt;
+      narrower = inside (placeAt 0 0 2);
       each-child = refl;
       by-verdict = ((refl, refl), ((refl, refl), tt));
       skip-rule = ((pixel₀, tt, not-true 1), ((pixel₁, tt, not-true 1), tt));
@@ -192,7 +168,7 @@ played₂ =
       changed = each-pixel (λ p. s₂ .cells p ≡ cellAfter covers false 1 (placeAt 0 0 2) 3 (inTurn turns₂ ++ afterwards turns₂) p (s₁ .cells p)) refl refl refl;
     }
 
-unfoldable pub played₃ : Played s₂ s₃
+unfoldable pub played₃ : Step s₂ s₃
 unfolding pixel₀ pixel₁ pixel₂ childOf quarters quartersAt listedIf isListed beginsIn Every Follows inTurn afterwards queuedBy
     cellAfter coversPixel coversAlong renamed afterGivingUp SkipRule AllTrue NotAllTrue
 played₃ =
@@ -201,7 +177,8 @@ played₃ =
       others = placeAt 0 0 1 ∷ placeAt 1 0 1 ∷ [];
       turns = turns₃;
       in-front = refl;
-      above-floor = lit< tt;
+      checked = lit< tt;
+      narrower = inside (placeAt 1 0 2);
       each-child = refl;
       by-verdict = ((refl, refl), tt);
       skip-rule = ((pixel₂, tt, not-true 2), tt);
@@ -217,7 +194,7 @@ unfolding AllTrue pixel₀ pixel₁ pixel₂ coversPixel coversAlong beginsIn
 all-true c a b = each-pixel (λ p. T (covers c p) → cond (covers (placeAt 0 0 0) p) isTrue (s₃ .cells p) ≡ isTrue) (λ k. refl) (λ k. absurd (a k))
     (λ k. absurd (b k))
 
-unfoldable pub played₄ : Played s₃ s₄
+unfoldable pub played₄ : Step s₃ s₄
 unfolding pixel₀ pixel₁ pixel₂ childOf quarters quartersAt listedIf isListed beginsIn Every Follows inTurn afterwards queuedBy
     cellAfter coversPixel coversAlong renamed afterGivingUp SkipRule AllTrue NotAllTrue
 played₄ =
@@ -226,7 +203,8 @@ played₄ =
       others = placeAt 1 0 1 ∷ placeAt 2 0 1 ∷ [];
       turns = turns₄;
       in-front = refl;
-      above-floor = lit< tt;
+      checked = lit< tt;
+      narrower = inside (placeAt 0 0 1);
       each-child = refl;
       by-verdict = (refl, (tt, (tt, (tt, tt))));
       skip-rule = (
@@ -241,7 +219,7 @@ played₄ =
       changed = each-pixel (λ p. s₄ .cells p ≡ cellAfter covers false 3 (placeAt 0 0 1) 6 (inTurn turns₄ ++ afterwards turns₄) p (s₃ .cells p)) refl refl refl;
     }
 
-unfoldable pub played₅ : Played s₄ s₅
+unfoldable pub played₅ : Step s₄ s₅
 unfolding pixel₀ pixel₁ pixel₂ childOf quarters quartersAt listedIf isListed beginsIn Every Follows inTurn afterwards queuedBy
     cellAfter coversPixel coversAlong renamed afterGivingUp SkipRule AllTrue NotAllTrue
 played₅ =
@@ -250,7 +228,8 @@ played₅ =
       others = placeAt 2 0 1 ∷ [];
       turns = turns₅;
       in-front = refl;
-      above-floor = lit< tt;
+      checked = lit< tt;
+      narrower = inside (placeAt 1 0 1);
       each-child = refl;
       by-verdict = (refl, (refl, (refl, (refl, tt))));
       skip-rule = ((pixel₁, tt, not-true 4), ((pixel₁, tt, not-true 4), ((pixel₁, tt, not-true 4), ((pixel₁, tt, not-true 4), tt))));
@@ -259,7 +238,7 @@ played₅ =
       changed = each-pixel (λ p. s₅ .cells p ≡ cellAfter covers false 4 (placeAt 1 0 1) 6 (inTurn turns₅ ++ afterwards turns₅) p (s₄ .cells p)) refl refl refl;
     }
 
-unfoldable pub played₆ : Played s₅ s₆
+unfoldable pub played₆ : Step s₅ s₆
 unfolding pixel₀ pixel₁ pixel₂ childOf quarters quartersAt listedIf isListed beginsIn Every Follows inTurn afterwards queuedBy
     cellAfter coversPixel coversAlong renamed afterGivingUp SkipRule AllTrue NotAllTrue
 played₆ =
@@ -268,7 +247,8 @@ played₆ =
       others = [];
       turns = turns₆;
       in-front = refl;
-      above-floor = lit< tt;
+      checked = lit< tt;
+      narrower = inside (placeAt 2 0 1);
       each-child = refl;
       by-verdict = (refl, (refl, (refl, (refl, tt))));
       skip-rule = ((pixel₂, tt, not-true 5), ((pixel₂, tt, not-true 5), ((pixel₂, tt, not-true 5), ((pixel₂, tt, not-true 5), tt))));

@@ -17,6 +17,7 @@ use Rattle.theory.specs.Shapes.{beginsIn, coversAlong, coversPixel, quar
 use Rattle.theory.specs.Colours.{Question, HasSolution, Holds, NoneIn, OneInEach, HoldsAll, Said, saidFalse, saidTrue, saidOpen, Fate, skipped, denied, marked, queuedAs, stuck, turn, inTurn, afterwards, LosesNothing, Judged, EveryTurn, FalseRight, MarkRight}
 use Rattle.theory.specs.Positions.{PlaceHolds, LiesBetween, Fraction, AtMost, exactEdge, LiesExactly, InPixelAlong}
 use Rattle.theory.proofs.ExamplePicture.{Pixel, pixel₀, pixel₁, pixel₂, each-pixel, covers, State, cutting, inside, same-place, step, judge, waits, s₀, s₃, s₆, played₁, played₂, played₃, played₄, played₅, played₆, run₃, run, judged, accepted}
+use Rattle.theory.proofs.ExampleSteps.{open-not-false, true-not-false, not-looked-at, open-unmarked, false-unmarked}
 use Rattle.theory.proofs.Theorems as Promise
 
 -- ---- demand 3
@@ -134,27 +135,15 @@ right-of-1 i k l m p g a h s =
     let r : 3 * m .horizontal .den ≤ i * m .horizontal .den = mul-le-mul-right (m .horizontal .den) l in
     omega arith
 
--- what was not said to be false is not wrong, nor what was not looked at
-not-false : (v : Said) → ¬ (v ≡ saidFalse) → (c : Place) (f : Fate Place) → FalseRight covers question (turn c v f)
-unfolding FalseRight
-not-false v n c f l e = absurd (n e)
-
-not-looked-at : (c : Place) (v : Said) → FalseRight covers question (turn c v skipped)
-unfolding FalseRight
-not-looked-at c v l e = absurd (l refl)
-
 right-false : (i k : ℕ) (f : Fate Place) → 2 < i → FalseRight covers question (turn (placeAt i k 0) saidFalse f)
 unfolding FalseRight
 right-false i k f h l e = right-of-1 i k h
 
-open-is-not-false : ¬ (saidOpen ≡ saidFalse)
-open-is-not-false e = let z : _≡_ {A = ℕ} 0 1 = cc in omega arith
-
 waits-right : (c : Place) → FalseRight covers question (waits c)
-waits-right c = not-false saidOpen open-is-not-false c (queuedAs c)
+waits-right c = open-not-false covers question c (queuedAs c)
 
 stuck-right : (c : Place) → FalseRight covers question (turn c saidOpen stuck)
-stuck-right c = not-false saidOpen open-is-not-false c stuck
+stuck-right c = open-not-false covers question c stuck
 
 all-false-right : EveryTurn covers cutting false (FalseRight covers question) run judged
 unfolding EveryTurn run run₃ judged played₁ played₂ played₃ played₄ played₅ played₆ Every
@@ -169,14 +158,17 @@ all-false-right = (
         (waits-right (placeAt 2 0 1), tt),
       ),
       (
-        not-false saidTrue (λ e. (let z : _≡_ {A = ℕ} 0 1 = cc in omega arith)) (placeAt 0 0 0) marked,
-        (not-looked-at (placeAt 1 0 0) saidFalse, (not-looked-at (placeAt 0 1 0) saidFalse, (not-looked-at (placeAt 1 1 0) saidOpen, tt))),
+        true-not-false covers question (placeAt 0 0 0) marked,
+        (unseen (placeAt 1 0 0) saidFalse, (unseen (placeAt 0 1 0) saidFalse, (unseen (placeAt 1 1 0) saidOpen, tt))),
       ),
     ),
     (stuck-right (placeAt 2 0 0), (right-false 3 0 denied (lit< tt), (stuck-right (placeAt 2 1 0), (right-false 3 1 denied (lit< tt), tt)))),
   ),
   (right-false 4 0 denied (lit< tt), (right-false 5 0 denied (lit< tt), (right-false 4 1 denied (lit< tt), (right-false 5 1 denied (lit< tt), tt)))),
 )
+  where
+    unseen : (c : Place) (v : Said) → FalseRight covers question (turn c v skipped)
+    unseen = not-looked-at covers question
 
 -- so the white pixel holds no solution
 white : ¬ HasSolution question pixel₂
@@ -199,16 +191,6 @@ mark-right : OneInEach covers question (placeAt 0 0 0)
 unfolding OneInEach coversPixel coversAlong beginsIn pixel₀ pixel₁ pixel₂
 mark-right = each-pixel (λ p. T (covers (placeAt 0 0 0) p) → HasSolution question p) (λ k. solved) (λ k. absurd k) (λ k. absurd k)
 
-not-true-said : (v : Said) → ¬ (v ≡ saidTrue) → (c : Place) (f : Fate Place) → MarkRight covers question (turn c v f)
-unfolding MarkRight
-not-true-said v n c f l e = absurd (n e)
-
-open-unmarked : (c : Place) (f : Fate Place) → MarkRight covers question (turn c saidOpen f)
-open-unmarked = not-true-said saidOpen (λ e. (let z : _≡_ {A = ℕ} 0 1 = cc in omega arith))
-
-false-unmarked : (c : Place) (f : Fate Place) → MarkRight covers question (turn c saidFalse f)
-false-unmarked = not-true-said saidFalse (λ e. (let z : _≡_ {A = ℕ} 0 1 = cc in omega arith))
-
 marked-right : MarkRight covers question (turn (placeAt 0 0 0) saidTrue marked)
 unfolding MarkRight
 marked-right l e = mark-right
@@ -220,17 +202,23 @@ all-marks-right = (
     (
       (
         (
-          (tt, (open-unmarked _ _, (open-unmarked _ _, tt))),
-          (open-unmarked _ _, (open-unmarked _ _, tt)),
+          (tt, (open-right _ _, (open-right _ _, tt))),
+          (open-right _ _, (open-right _ _, tt)),
         ),
-        (open-unmarked _ _, tt),
+        (open-right _ _, tt),
       ),
-      (marked-right, (false-unmarked _ _, (false-unmarked _ _, (open-unmarked _ _, tt)))),
+      (marked-right, (denied-right _ _, (denied-right _ _, (open-right _ _, tt)))),
     ),
-    (open-unmarked _ _, (false-unmarked _ _, (open-unmarked _ _, (false-unmarked _ _, tt)))),
+    (open-right _ _, (denied-right _ _, (open-right _ _, (denied-right _ _, tt)))),
   ),
-  (false-unmarked _ _, (false-unmarked _ _, (false-unmarked _ _, (false-unmarked _ _, tt)))),
+  (denied-right _ _, (denied-right _ _, (denied-right _ _, (denied-right _ _, tt)))),
 )
+  where
+    open-right : (c : Place) (f : Fate Place) → MarkRight covers question (turn c saidOpen f)
+    open-right = open-unmarked covers question
+
+    denied-right : (c : Place) (f : Fate Place) → MarkRight covers question (turn c saidFalse f)
+    denied-right = false-unmarked covers question
 
 black : HasSolution question pixel₀
 black = Promise.true-means-yes covers cutting question false accepted run judged all-marks-right pixel₀ (reads .0)

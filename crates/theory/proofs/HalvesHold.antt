@@ -11,11 +11,12 @@ use native.Mathlib.Omega.{arith}
 use lib.Dec.{T}
 use lib.Pow.{pow-pos}
 use borrow.Author.Tests.{lt-ltb, le-ltb}
+use Rattle.base.proofs.Test.{both-of, of-both}
+use Rattle.base.proofs.AxisLaws.{begins-over, Reaches, covers-reaches, reaches-covers, root-covers, half-same}
 use Rattle.theory.specs.Lists.{Some}
 use Rattle.theory.specs.Levels.{Place, placeAt}
 use Rattle.theory.specs.Shapes.{PixelIn, beginsIn, coversAlong, coversPixel, HalfOf, isListed, listedIf, quartersAt, quarters, halvesAt, halvesInX}
 use Rattle.theory.specs.Positions.{Ruler, PlaceHolds, StripHolds}
-use Rattle.theory.proofs.AxisLaws.{both-of, of-both, Reaches, covers-reaches, reaches-covers, begins-over, half-begins, root-covers}
 use Rattle.theory.proofs.ChildPlaces.{zero-covers}
 
 -- above the pixel's level: the half that covers pixel p
@@ -75,16 +76,7 @@ module _ (px : ℕ) {X : Type 0} (Lies : ℕ → ℕ → X → Type 0) (ruler : 
 
       with-half : j < px → (c : ℕ) → HalfOf i c → Lies c j x → ListedHalf w i j p x
       with-half l c hc m =
-          let z = half-begins px j i c hc l in
-          let d : j - px ≡ suc j - px = omega arith in
-          let e : 2 ^ (j - px) ≡ 2 ^ (suc j - px) = ap (λ (m : ℕ). 2 ^ m) d in
-          record {
-            c = c;
-            half = hc;
-            lies = m;
-            covers = reaches-covers px j c p record { low = omega (arith, o .low, o .high); high = omega (arith, o .low, o .high) };
-            listed = rw (lt-ltb j px l);
-          }
+          record { c = c; half = hc; lies = m; covers = rw (half-same px j i c p hc l) k; listed = rw (lt-ltb j px l) }
 
       under : j < px → ListedHalf w i j p x
       under l = unfold HalfOf in ⊎-elim (λ m. with-half l (i + i) (inl refl) m) (λ m. with-half l (suc (i + i)) (inr refl) m) (ruler .halve i j x l h)
@@ -184,3 +176,11 @@ module _ {X : Type 0} (w px : ℕ) (Lies : ℕ → ℕ → X → Type 0) (ruler 
     where
       go : (j : ℕ) → b .level ≡ suc j → Some (StripHolds px Lies x p) (halvesAt px w (b .x) (b .level))
       go j e = rw e (halves-at-hold p x (b .x) (b .y) j a (rw e at o))
+
+  pub strip-root-holds : (k : ℕ) → w ≤ 2 ^ k → (p : PixelIn w 1) (x : X) → Lies (p .x) px x → StripHolds px Lies x p (placeAt 0 0 (px + k))
+  unfolding StripHolds coversPixel
+  strip-root-holds k a p x h = (
+    root-lies px Lies ruler k w (p .x) x a (p .x-in) h,
+    of-both (coversAlong px (px + k) 0 (p .x)) (coversAlong px (px + k) 0 (p .y)) (root-covers px k w (p .x) a (p .x-in))
+        (zero-covers px (px + k) (p .y) (p .y-in)),
+  )

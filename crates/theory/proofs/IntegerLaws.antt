@@ -7,8 +7,8 @@ use native.Mathlib.Omega.{arith}
 use lib.Dec.{T, leb→le, ltb→lt, le→leb, lt→ltb}
 use lib.IntN.{ℤ, pos, negsuc, sucℤ}
 use lib.Signed.{leZ, ltZ, _≤ℤ_, _<ℤ_, <ℤ-≤ℤ-trans, <ℤ-irrefl}
+use Rattle.base.proofs.Test.{both-of}
 use Rattle.theory.specs.Cuts.{sameInteger}
-use Rattle.theory.proofs.AxisLaws.{both-of}
 
 three : (a b : ℕ) → (a < b) ⊎ ((a ≡ b) ⊎ (b < a))
 three a b = elim (decLt a b) [ yes k ↦ inl k | no k ↦ elim (decLt b a) [ yes l ↦ inr (inr l) | no l ↦ inr (inl (omega arith)) ] ]

@@ -12,8 +12,6 @@ pub mod RunLaws
 pub mod ListLaws
 pub mod Potential
 pub mod Sums
-pub mod PlaceLaws
-pub mod AxisLaws
 pub mod ChildPlaces
 pub mod PlaceCount
 pub mod Bounds
@@ -26,7 +24,9 @@ pub mod Edges
 pub mod IntegerLaws
 pub mod CutsHold
 -- closed instances
+pub mod ExampleSteps
 pub mod ExamplePicture
 pub mod ExamplePromises
 pub mod ExampleParameter
+pub mod ExampleReal
 pub mod ExampleStrip

@@ -6,13 +6,23 @@ use mathlib.Core.Bool.{Bool, true, false, cond, _&&_}
 use mathlib.Core.List.{List}
 use Prim.Native.Nat.{ℕ, zero, suc, _+_, _-_, _*_, _^_, _≤_, _<_}
 use native.Mathlib.Nat.{add-suc}
+use native.Mathlib.Decide.{decLe}
 use native.Mathlib.Omega.{arith}
+use lib.Dec.{ltb}
+use borrow.Author.Tests.{lt-ltb, le-ltb}
+use Rattle.base.proofs.AxisLaws.{places-suc, places-one, begins-inside, counted-begins, half-begins}
 use Rattle.theory.specs.Lists.{sumOver}
 use Rattle.theory.specs.Levels.{Place, placeAt, treeSize, costAbove, sumTo, placesAlong, placesAbove, stripPlacesAbove}
-use Rattle.theory.specs.Shapes.{HalfOf, listedIf, quartersAt, quarters, halvesAt, halvesInX}
+use Rattle.theory.specs.Shapes.{beginsIn, HalfOf, isListed, listedIf, quartersAt, quarters, halvesAt, halvesInX}
 use Rattle.theory.proofs.Sums.{upTo, sum-cong, sum-add, sum-const, pairing, grid, upToBoth, grid-cong, grid-suc, four, four-by-four}
-use Rattle.theory.proofs.PlaceLaws.{places-suc, places-one}
-use Rattle.theory.proofs.AxisLaws.{begins-inside, listed-counted}
+
+-- the halves that are listed of an index inside the side are those that are counted
+listed-counted : (px w j i c : ℕ) → HalfOf i c → beginsIn px (suc j) i < w → isListed px w j c ≡ ltb c (placesAlong (w * 2 ^ px) j)
+unfolding isListed
+listed-counted px w j i c h l = elim (decLe px j) [
+  | yes k ↦ rw (le-ltb j px k) (sym (counted-begins px w j c))
+  | no k ↦ rw (lt-ltb j px (omega arith)) (sym (counted-begins px w j c ∙ lt-ltb (beginsIn px j c) w (rw (half-begins px j i c h (omega arith)) l)))
+]
 
 -- what is listed, in a sum
 listed-sum : (f : Place → ℕ) (k l : Bool) (c : Place) (r : List Place)

@@ -1,4 +1,5 @@
--- The promises, each under the sentence that it proves; the words are those of specs/, the proofs stand in the modules cited.
+-- The promises, each under the sentence that it proves; the words are those of specs/, the proofs stand in the modules cited. First the four sentences
+-- of demand 3, then what the colours mean, then what stands behind them.
 -- Blocks, pixels, `covers` (every floor and shape) and `spare` (either mode) are variables throughout. The demand's conditions: an accepted
 -- setup is AcceptedSetup; a finished step has had legal verdicts; "each on the record, ring and cells that setup or the step before it
 -- left, and nobody else writes" is how FinishedSteps are chained. Assumes nothing.
@@ -11,6 +12,7 @@ use lib.Dec.{T}
 use lib.ListN.{length, drop}
 use lib.IntN.{ℤ}
 use lib.Signed.{_≤ℤ_}
+use Rattle.base.proofs.AxisLaws.{places-over, places-under}
 use Rattle.theory.specs.Lists.{Every, Some, sumOver}
 use Rattle.theory.specs.Cells.{isTrue, givenUp, named, readsTrue, readsFalse, readsUncertain}
 use Rattle.theory.specs.Runs.{Snapshot, AcceptedSetup, Narrower, AllNarrower, FinishedStep, FinishedSteps, EveryStep, queuedIn}
@@ -25,7 +27,6 @@ use Rattle.theory.proofs.FalseRule.{false-by-events, was-now, false-ste
 use Rattle.theory.proofs.FirstInFirstOut.{taken-counts, queue-after, queue-behind}
 use Rattle.theory.proofs.TrueStays.{true-steps, away-from-uncertain, whole-picture-alike, one-pixel-alike}
 use Rattle.theory.proofs.RunLaws.{every-step}
-use Rattle.theory.proofs.PlaceLaws.{places-over, places-under}
 use Rattle.theory.proofs.Potential.{step-costs, levels-fall}
 use Rattle.theory.proofs.ChildPlaces.{quarters-lower, halves-lower, quarters-cover-less, halves-cover-less}
 use Rattle.theory.proofs.PlaceCount.{root-cost, strip-root-cost}
@@ -33,11 +34,11 @@ use Rattle.theory.proofs.Bounds.{square-bound, strip-bound, emptied, lo
 use Rattle.theory.proofs.WhiteMeansNo.{reads-false-none, empty-decides}
 use Rattle.theory.proofs.TrueMeansYes.{reads-true-solves}
 use Rattle.theory.proofs.TurnLaws.{turns-narrower, judged-looks, judged-queues}
-use Rattle.theory.proofs.HalvesHold.{root-holds, quarters-hold, halves-hold}
+use Rattle.theory.proofs.HalvesHold.{root-holds, quarters-hold, halves-hold, strip-root-holds}
 use Rattle.theory.proofs.Edges.{edges-ruler, exact-ruler, pixel-exactly}
 use Rattle.theory.proofs.CutsHold.{first-pieces-hold, later-pieces-hold, first-integers-owe, later-integers-owe}
 
--- ---- Demand 3
+-- ---- Demand 3: its four sentences
 
 module _ {Block Pixel : Type 0} (covers : Block → Pixel → Bool) (spare : Bool) where
   -- "A pixel reads False exactly if it isn't True, wasn't given up, and no queued block covers it."
@@ -45,20 +46,69 @@ module _ {Block Pixel : Type 0} (covers : Block → Pixel → Bool) (spare : Boo
       → (pixelReads s p ≡ readsFalse) ↔ ((¬ (pixelReads s p ≡ readsTrue)) × (¬ WasGivenUp covers spare r p) × NoneCovers covers (s .queue) p)
   false-rule = false-by-events covers spare
 
+  -- "A pixel that reads False stays False."
+  pub false-stays : {n m : ℕ} {s₀ s s′ : Snapshot Block Pixel} → AcceptedSetup covers s₀ → FinishedSteps covers spare n s₀ s
+      → FinishedSteps covers spare m s s′ → (p : Pixel) → pixelReads s p ≡ readsFalse → pixelReads s′ p ≡ readsFalse
+  false-stays z r = false-steps covers spare (steps-sound covers spare r (setup-sound covers z))
+
+  -- "A block with d blocks before it has left the queue after d + 1 further finished steps": it and those before it are gone, those behind it
+  -- come first, and what was queued since stands behind them. (By place: equal blocks may be queued twice.)
+  pub leaves : (d : ℕ) {s s′ : Snapshot Block Pixel} (r : FinishedSteps covers spare (suc d) s s′) → d < length (s .queue)
+      → s′ .queue ≡ drop (suc d) (s .queue) ++ queuedIn covers spare r
+  leaves d = queue-behind covers spare
+
+-- "If x or y is used and there is no parameter, then once the finished steps reach the sum, over j from 1 to the start level, of
+-- ceil(width / 2^j) times ceil(height / 2^j), no queued block covers more than one pixel." (px is the level of a pixel.)
+pub pixel-bound : {Block : Type 0} (w h px k : ℕ) (spare : Bool) (placeOf : Block → Place) {n : ℕ} {s₀ s : Snapshot Block (PixelIn w h)}
+    → OneBlock placeOf px w h k s₀ → (r : FinishedSteps (coversByPlace w h px placeOf) spare n s₀ s)
+    → EveryStep (coversByPlace w h px placeOf) spare (QueuesChildren (coversByPlace w h px placeOf) spare placeOf (quarters px w h)) r
+    → pixelFigure w h k ≤ n → Every (CoversAtMostOne (coversByPlace w h px placeOf)) (s .queue)
+pixel-bound = pixel-square-bound
+
+-- of a strip, ceil(width / 2^j) alone
+pub strip-pixel-bound : {Block : Type 0} (w px k : ℕ) (spare : Bool) (placeOf : Block → Place) {n : ℕ} {s₀ s : Snapshot Block (PixelIn w 1)}
+    → OneBlock placeOf px w 1 k s₀ → (r : FinishedSteps (coversByPlace w 1 px placeOf) spare n s₀ s)
+    → EveryStep (coversByPlace w 1 px placeOf) spare (QueuesChildren (coversByPlace w 1 px placeOf) spare placeOf (halvesInX px w)) r
+    → stripPixelFigure w k ≤ n → Every (CoversAtMostOne (coversByPlace w 1 px placeOf)) (s .queue)
+strip-pixel-bound = pixel-strip-bound
+
+-- ---- What the colours mean: over any mixes, positions and relation
+
+module _ {Block Pixel : Type 0} (covers : Block → Pixel → Bool) (C : Cutting Block) (Q : Question Block Pixel) (spare : Bool) where
+  -- "if every `false` verdict was right, a pixel that reads False holds no solution"
+  pub white-means-no : LosesNothing covers C Q → {n : ℕ} {s₀ s : Snapshot Block Pixel} → AcceptedSetup covers s₀ → HoldsAll covers Q s₀
+      → (r : FinishedSteps covers spare n s₀ s) (j : EveryStep covers spare (Judged covers C spare) r)
+      → EveryTurn covers C spare (FalseRight covers Q) r j
+      → (p : Pixel) → pixelReads s p ≡ readsFalse → ¬ HasSolution Q p
+  white-means-no laws = reads-false-none covers C Q laws spare
+
+  -- "if every mark was right, a pixel that reads True holds one"
+  pub true-means-yes : {n : ℕ} {s₀ s : Snapshot Block Pixel} → AcceptedSetup covers s₀
+      → (r : FinishedSteps covers spare n s₀ s) (j : EveryStep covers spare (Judged covers C spare) r)
+      → EveryTurn covers C spare (MarkRight covers Q) r j
+      → (p : Pixel) → pixelReads s p ≡ readsTrue → HasSolution Q p
+  true-means-yes = reads-true-solves covers C Q spare
+
+  -- "when the queue is empty, every pixel that is not given up is decided"
+  pub done-decides : LosesNothing covers C Q → {n : ℕ} {s₀ s : Snapshot Block Pixel} → AcceptedSetup covers s₀ → HoldsAll covers Q s₀
+      → (r : FinishedSteps covers spare n s₀ s) (j : EveryStep covers spare (Judged covers C spare) r)
+      → EveryTurn covers C spare (FalseRight covers Q) r j
+      → EveryTurn covers C spare (MarkRight covers Q) r j → s .queue ≡ [] → (p : Pixel) → ¬ (s .cells p ≡ givenUp)
+      → ((pixelReads s p ≡ readsTrue) × HasSolution Q p) ⊎ ((pixelReads s p ≡ readsFalse) × (¬ HasSolution Q p))
+  done-decides laws = empty-decides covers C Q laws spare
+
+-- ---- Behind the False rule, and first in, first out
+
+module _ {Block Pixel : Type 0} (covers : Block → Pixel → Bool) (spare : Bool) where
   -- given up ever, by a step, and given up now, in the cell: of a pixel that isn't True these are one
   pub given-up-ever-now : {n : ℕ} {s₀ s : Snapshot Block Pixel} → AcceptedSetup covers s₀ → (r : FinishedSteps covers spare n s₀ s) (p : Pixel)
       → ¬ (s .cells p ≡ isTrue) → WasGivenUp covers spare r p ↔ (s .cells p ≡ givenUp)
   given-up-ever-now = was-now covers spare
 
-  -- the invariant behind it: a cell that names a block still in the queue names the last queued block that covers its pixel
+  -- the invariant: a cell that names a block still in the queue names the last queued block that covers its pixel
   pub names-last : {n : ℕ} {s₀ s : Snapshot Block Pixel} → AcceptedSetup covers s₀ → FinishedSteps covers spare n s₀ s
       → (p : Pixel) (m : ℕ) → s .cells p ≡ named m → NamesLast covers (s .taken) (s .queue) p m
   names-last {s = s} z r = sound-named covers s (steps-sound covers spare r (setup-sound covers z))
-
-  -- "A pixel that reads False stays False."
-  pub false-stays : {n m : ℕ} {s₀ s s′ : Snapshot Block Pixel} → AcceptedSetup covers s₀ → FinishedSteps covers spare n s₀ s
-      → FinishedSteps covers spare m s s′ → (p : Pixel) → pixelReads s p ≡ readsFalse → pixelReads s′ p ≡ readsFalse
-  false-stays z r = false-steps covers spare (steps-sound covers spare r (setup-sound covers z))
 
   -- a step changes readings only under the block that it takes
   pub elsewhere-stays : {n : ℕ} {s₀ s s′ : Snapshot Block Pixel} → AcceptedSetup covers s₀ → FinishedSteps covers spare n s₀ s
@@ -74,12 +124,9 @@ module _ {Block Pixel : Type 0} (covers : Block → Pixel → Bool) (spare : Boo
       → s′ .queue ≡ drop n (s .queue ++ queuedIn covers spare r)
   first-in-first-out = queue-after covers spare
 
-  -- "A block with d blocks before it has left the queue after d + 1 further finished steps": it and those before it are gone, those behind it
-  -- come first, and what was queued since stands behind them. (By place: equal blocks may be queued twice.)
-  pub leaves : (d : ℕ) {s s′ : Snapshot Block Pixel} (r : FinishedSteps covers spare (suc d) s s′) → d < length (s .queue)
-      → s′ .queue ≡ drop (suc d) (s .queue) ++ queuedIn covers spare r
-  leaves d = queue-behind covers spare
+-- ---- True stays True, and the order of the readings
 
+module _ {Block Pixel : Type 0} (covers : Block → Pixel → Bool) (spare : Bool) where
   -- "A pixel that reads True stays True", in the sparing mode; and in the other, if the two facts of KeepsTrue hold of each step
   pub true-stays : {n : ℕ} {s s′ : Snapshot Block Pixel} (r : FinishedSteps covers spare n s s′) → KeepsTrue covers spare r
       → (p : Pixel) → pixelReads s p ≡ readsTrue → pixelReads s′ p ≡ readsTrue
@@ -167,45 +214,7 @@ pub low-covers-at-most-one : {Block : Type 0} (w h px : ℕ) (placeOf : Block �
     → CoversAtMostOne (coversByPlace w h px placeOf) b
 low-covers-at-most-one = low-covers-one
 
--- "If x or y is used and there is no parameter, then once the finished steps reach the sum, over j from 1 to the start level, of
--- ceil(width / 2^j) times ceil(height / 2^j), no queued block covers more than one pixel."
-pub pixel-bound : {Block : Type 0} (w h px k : ℕ) (spare : Bool) (placeOf : Block → Place) {n : ℕ} {s₀ s : Snapshot Block (PixelIn w h)}
-    → OneBlock placeOf px w h k s₀ → (r : FinishedSteps (coversByPlace w h px placeOf) spare n s₀ s)
-    → EveryStep (coversByPlace w h px placeOf) spare (QueuesChildren (coversByPlace w h px placeOf) spare placeOf (quarters px w h)) r
-    → pixelFigure w h k ≤ n → Every (CoversAtMostOne (coversByPlace w h px placeOf)) (s .queue)
-pixel-bound = pixel-square-bound
-
--- of a strip, ceil(width / 2^j) alone
-pub strip-pixel-bound : {Block : Type 0} (w px k : ℕ) (spare : Bool) (placeOf : Block → Place) {n : ℕ} {s₀ s : Snapshot Block (PixelIn w 1)}
-    → OneBlock placeOf px w 1 k s₀ → (r : FinishedSteps (coversByPlace w 1 px placeOf) spare n s₀ s)
-    → EveryStep (coversByPlace w 1 px placeOf) spare (QueuesChildren (coversByPlace w 1 px placeOf) spare placeOf (halvesInX px w)) r
-    → stripPixelFigure w k ≤ n → Every (CoversAtMostOne (coversByPlace w 1 px placeOf)) (s .queue)
-strip-pixel-bound = pixel-strip-bound
-
--- ---- What the colours mean: over any mixes, positions and relation
-
-module _ {Block Pixel : Type 0} (covers : Block → Pixel → Bool) (C : Cutting Block) (Q : Question Block Pixel) (spare : Bool) where
-  -- "if every `false` verdict was right, a pixel that reads False holds no solution"
-  pub white-means-no : LosesNothing covers C Q → {n : ℕ} {s₀ s : Snapshot Block Pixel} → AcceptedSetup covers s₀ → HoldsAll covers Q s₀
-      → (r : FinishedSteps covers spare n s₀ s) (j : EveryStep covers spare (Judged covers C spare) r)
-      → EveryTurn covers C spare (FalseRight covers Q) r j
-      → (p : Pixel) → pixelReads s p ≡ readsFalse → ¬ HasSolution Q p
-  white-means-no laws = reads-false-none covers C Q laws spare
-
-  -- "if every mark was right, a pixel that reads True holds one"
-  pub true-means-yes : {n : ℕ} {s₀ s : Snapshot Block Pixel} → AcceptedSetup covers s₀
-      → (r : FinishedSteps covers spare n s₀ s) (j : EveryStep covers spare (Judged covers C spare) r)
-      → EveryTurn covers C spare (MarkRight covers Q) r j
-      → (p : Pixel) → pixelReads s p ≡ readsTrue → HasSolution Q p
-  true-means-yes = reads-true-solves covers C Q spare
-
-  -- "when the queue is empty, every pixel that is not given up is decided"
-  pub done-decides : LosesNothing covers C Q → {n : ℕ} {s₀ s : Snapshot Block Pixel} → AcceptedSetup covers s₀ → HoldsAll covers Q s₀
-      → (r : FinishedSteps covers spare n s₀ s) (j : EveryStep covers spare (Judged covers C spare) r)
-      → EveryTurn covers C spare (FalseRight covers Q) r j
-      → EveryTurn covers C spare (MarkRight covers Q) r j → s .queue ≡ [] → (p : Pixel) → ¬ (s .cells p ≡ givenUp)
-      → ((pixelReads s p ≡ readsTrue) × HasSolution Q p) ⊎ ((pixelReads s p ≡ readsFalse) × (¬ HasSolution Q p))
-  done-decides laws = empty-decides covers C Q laws spare
+-- ---- A step by its verdicts is a finished step, as the others ask
 
 module _ {Block Pixel : Type 0} (covers : Block → Pixel → Bool) (C : Cutting Block) where
   -- of a step by its verdicts, if children cover only what their parent covers: so do its events, as a finished step asks; and a step that gives up
@@ -251,6 +260,10 @@ pub halves-lose-nothing : {X : Type 0} (w px : ℕ) (Lies : ℕ → ℕ → X �
     → zero < b .level → Lies (p .x) px x
     → StripHolds px Lies x p b → Some (StripHolds px Lies x p) (halvesInX px w b)
 halves-lose-nothing = halves-hold
+
+pub strip-first-block-holds : {X : Type 0} (w px : ℕ) (Lies : ℕ → ℕ → X → Type 0) → Ruler px Lies → (k : ℕ) → w ≤ 2 ^ k → (p : PixelIn w 1) (x : X)
+    → Lies (p .x) px x → StripHolds px Lies x p (placeAt 0 0 (px + k))
+strip-first-block-holds = strip-root-holds
 
 -- rulers: edges that are shared, and exact fractions, of which a pixel is one unit
 pub shared-edges-rule : {R : Type 0} (Le : R → R → Type 0) (low high : ℕ → ℕ → R) (px : ℕ) → SharedEdges Le low high px

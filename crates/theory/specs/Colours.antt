@@ -12,6 +12,7 @@ use Rattle.theory.specs.Runs.{Snapshot, Event, marks, queues, givesUp, F
 
 -- ---- the question
 
+-- what is asked of a picture
 pub record Question (Block Pixel : Type 0) : Type 1 where
   -- a point of the plane with a value for each parameter
   pub Mix : Type 0
@@ -68,6 +69,7 @@ pub data Fate (Block : Type 0) : Type 0 where
 pub data Turn (Block : Type 0) : Type 0 where
   turn : Block → Said → Fate Block → Turn Block
 
+-- the child whose turn it is
 unfoldable pub childOf : {Block : Type 0} → Turn Block → Block
 childOf (turn c v f) = c
 
@@ -105,10 +107,11 @@ Follows C (turn c v (queuedAs d)) = (v ≡ saidOpen) × C .Same c d
 Follows C (turn c v stuck) = v ≡ saidOpen
 
 module _ {Block Pixel : Type 0} (covers : Block → Pixel → Bool) where
-  -- all cells that the block covers are True; one is not
+  -- all cells that the block covers are True
   unfoldable pub AllTrue : (Pixel → Standing) → Block → Type 0
   AllTrue cells c = (p : Pixel) → T (covers c p) → cells p ≡ isTrue
 
+  -- a cell that it covers is not True
   unfoldable pub NotAllTrue : (Pixel → Standing) → Block → Type 0
   NotAllTrue cells c = (p : Pixel) × T (covers c p) × (¬ (cells p ≡ isTrue))
 

@@ -13,10 +13,12 @@ pub data End (N : Type 0) : Type 0 where
   finite : N → End N
   plusInf : End N
 
+-- an interval: its two ends
 pub record Span (N : Type 0) : Type 0 where
   pub lower : End N
   pub upper : End N
 
+-- the interval from one end to another
 abbrev pub span : {N : Type 0} → End N → End N → Span N
 span a b = record { lower = a; upper = b }
 
@@ -34,29 +36,32 @@ firstPieces v = pointSpan (v .lower) ++ (v ∷ pointSpan (v .upper))
 unfoldable pub laterPieces : {N : Type 0} → N → Span N → List (Span N)
 laterPieces c v = span (v .lower) (finite c) ∷ span (finite c) (finite c) ∷ span (finite c) (v .upper) ∷ []
 
--- a number lies in an interval, its ends included: the ranges that setup is given, and what a block owes of a real parameter
 module _ {N : Type 0} (Le : N → N → Type 0) where
+  -- a number is not below a lower end
   unfoldable pub FromEnd : End N → N → Type 0
   FromEnd minusInf x = Unit {0}
   FromEnd (finite a) x = Le a x
   FromEnd plusInf x = ⊥
 
+  -- a number is not above an upper end
   unfoldable pub UpToEnd : N → End N → Type 0
   UpToEnd x minusInf = ⊥
   UpToEnd x (finite b) = Le x b
   UpToEnd x plusInf = Unit {0}
 
+  -- a number lies in an interval, its ends included: the ranges that setup is given, and what a block owes of a real parameter
   unfoldable pub InSpan : Span N → N → Type 0
   InSpan v x = FromEnd (v .lower) x × UpToEnd x (v .upper)
 
 -- ---- integers
 
--- strictly over and strictly under an end
+-- an integer is strictly over an end
 unfoldable pub OverEnd : End ℤ → ℤ → Type 0
 OverEnd minusInf x = Unit {0}
 OverEnd (finite a) x = a <ℤ x
 OverEnd plusInf x = ⊥
 
+-- an integer is strictly under an end
 unfoldable pub UnderEnd : ℤ → End ℤ → Type 0
 UnderEnd x minusInf = ⊥
 UnderEnd x (finite b) = x <ℤ b
@@ -67,6 +72,7 @@ UnderEnd x plusInf = Unit {0}
 unfoldable pub Owes : Span ℤ → ℤ → Type 0
 Owes v x = (v ≡ span (finite x) (finite x)) ⊎ (OverEnd (v .lower) x × UnderEnd x (v .upper))
 
+-- are two integers equal?
 abbrev pub sameInteger : ℤ → ℤ → Bool
 sameInteger a b = leZ a b && leZ b a
 
@@ -78,9 +84,11 @@ isStep next (finite a) (finite b) = sameInteger b (next a)
 isStep next (finite a) plusInf = false
 isStep next plusInf b = false
 
+-- is the interval [a, a + 1]?
 unfoldable pub hasWidth1 : Span ℤ → Bool
 hasWidth1 v = isStep sucℤ (v .lower) (v .upper)
 
+-- is it [a, a + 2]?
 unfoldable pub hasWidth2 : Span ℤ → Bool
 hasWidth2 v = isStep (λ a. sucℤ (sucℤ a)) (v .lower) (v .upper)
 
@@ -99,6 +107,7 @@ nextEnd plusInf = plusInf
 unfoldable pub middleIfWidth2 : (Span ℤ → Bool) → Span ℤ → Span ℤ
 middleIfWidth2 divisible v = cond (hasWidth2 v && divisible v) (span (nextEnd (v .lower)) (nextEnd (v .lower))) v
 
+-- are two ends equal?
 unfoldable pub sameEnd : End ℤ → End ℤ → Bool
 sameEnd minusInf minusInf = true
 sameEnd minusInf (finite b) = false
@@ -115,13 +124,15 @@ unfoldable pub unlikeBefore : Span ℤ → List (Span ℤ) → List (Span ℤ)
 unlikeBefore v [] = []
 unlikeBefore v (u ∷ l) = cond (sameEnd (v .lower) (u .lower) && sameEnd (v .upper) (u .upper)) (unlikeBefore v l) (u ∷ unlikeBefore u l)
 
+-- the pieces, each unlike the one before it
 unfoldable pub noRepeats : List (Span ℤ) → List (Span ℤ)
 noRepeats [] = []
 noRepeats (v ∷ l) = v ∷ unlikeBefore v l
 
--- the first cut of an integer parameter, and a later one at c
+-- the first cut of an integer parameter
 unfoldable pub firstIntegers : Span ℤ → List (Span ℤ)
 firstIntegers v = noRepeats (withoutWidth1 (firstPieces v))
 
+-- its later cut at c; divisible says which pieces could be cut on
 unfoldable pub laterIntegers : (Span ℤ → Bool) → ℤ → Span ℤ → List (Span ℤ)
 laterIntegers divisible c v = map (middleIfWidth2 divisible) (withoutWidth1 (laterPieces c v))

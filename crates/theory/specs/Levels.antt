@@ -1,12 +1,12 @@
 -- The bound's words: places, their levels, what a place can still cost, and how many places a picture has on a level.
--- Levels are natural numbers, counted from a lowest one; px is the level of a pixel, document 01's level 0, and may stand anywhere above it, and so
--- may the floor. (Where a level stands as its rank, px is 48.) A unit is the width of a place of the lowest level: a side of w pixels is w * 2 ^ px
--- units, and a place of level j is 2 ^ j units wide.
+-- Levels and units are those of base's Axis: px is the level of a pixel, document 01's level 0, and the floor may stand anywhere. (Where a level stands
+-- as its rank, px is 48.)
 use mathlib.Core.Path.{_≡_}
 use mathlib.Core.Logic.{_⊎_}
 use mathlib.Core.Bool.{Bool}
 use mathlib.Core.List.{List, [], _∷_, map, Sublistᴰ}
-use Prim.Native.Nat.{ℕ, zero, suc, _+_, _-_, _*_, _/_, _^_, _≤_, _<_}
+use Prim.Native.Nat.{ℕ, zero, suc, _+_, _-_, _*_, _^_, _≤_, _<_}
+unfoldable pub use Rattle.base.specs.Axis.{placesAlong}
 use Rattle.theory.specs.Lists.{Every, sumOver}
 use Rattle.theory.specs.Runs.{Snapshot, queuedBy, FinishedStep}
 
@@ -16,6 +16,7 @@ pub record Place : Type 0 where
   pub y : ℕ
   pub level : ℕ
 
+-- the place x, y of level j
 abbrev pub placeAt : ℕ → ℕ → ℕ → Place
 placeAt x y j = record { x = x; y = y; level = j }
 
@@ -63,10 +64,6 @@ unfoldable pub sumTo : ℕ → (ℕ → ℕ) → ℕ
 sumTo zero f = zero
 sumTo (suc n) f = sumTo n f + f n
 
--- how many places of level j there are along a side of W units: W / 2 ^ j, rounded up
-unfoldable pub placesAlong : ℕ → ℕ → ℕ
-placesAlong W j = (W + (2 ^ j - 1)) / 2 ^ j
-
 -- the places of a picture on the n levels above L
 unfoldable pub placesAbove : ℕ → ℕ → ℕ → ℕ → ℕ
 placesAbove W H L n = sumTo n (λ i. placesAlong W (L + suc i) * placesAlong H (L + suc i))
@@ -75,9 +72,10 @@ placesAbove W H L n = sumTo n (λ i. placesAlong W (L + suc i) * placesAlong H (
 unfoldable pub stripPlacesAbove : ℕ → ℕ → ℕ → ℕ
 stripPlacesAbove W L n = sumTo n (λ i. placesAlong W (L + suc i))
 
--- "the sum, over j from 1 to the start level, of ceil(width / 2^j) times ceil(height / 2^j)"; of a strip, of ceil(width / 2^j)
+-- "the sum, over j from 1 to the start level, of ceil(width / 2^j) times ceil(height / 2^j)"
 unfoldable pub pixelFigure : ℕ → ℕ → ℕ → ℕ
 pixelFigure w h k = sumTo k (λ i. placesAlong w (suc i) * placesAlong h (suc i))
 
+-- of a strip, the sum of ceil(width / 2^j)
 unfoldable pub stripPixelFigure : ℕ → ℕ → ℕ
 stripPixelFigure w k = sumTo k (λ i. placesAlong w (suc i))

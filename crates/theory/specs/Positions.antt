@@ -25,8 +25,9 @@ StripHolds px Lies x p b = Lies (b .x) (b .level) x × T (coversPixel px b p)
 
 -- ---- edges
 
--- each index of each level has a low and a high edge, exact or rounded; a position lies between them
+-- each index of each level has a low and a high edge, exact or rounded
 module _ {R : Type 0} (Le : R → R → Type 0) (low high : ℕ → ℕ → R) where
+  -- a position lies between the edges of index i of level j, or on one
   unfoldable pub LiesBetween : ℕ → ℕ → R → Type 0
   LiesBetween i j x = Le (low i j) x × Le x (high i j)
 
@@ -44,11 +45,13 @@ module _ {R : Type 0} (Le : R → R → Type 0) (low high : ℕ → ℕ → R) w
 
 -- ---- exact positions: fractions, in pixels from the picture's left or lower edge
 
+-- num / den
 pub record Fraction : Type 0 where
   pub num : ℕ
   pub den : ℕ
   pub den-pos : zero < den
 
+-- a is at most b
 unfoldable pub AtMost : Fraction → Fraction → Type 0
 AtMost a b = a .num * b .den ≤ b .num * a .den
 
@@ -56,6 +59,7 @@ AtMost a b = a .num * b .den ≤ b .num * a .den
 unfoldable pub exactEdge : ℕ → ℕ → ℕ → Fraction
 exactEdge px i j = record { num = i * 2 ^ j; den = 2 ^ px; den-pos = pow-pos px }
 
+-- a fraction lies in index i of level j, edges included
 abbrev pub LiesExactly : ℕ → ℕ → ℕ → Fraction → Type 0
 LiesExactly px = LiesBetween AtMost (λ i j. exactEdge px i j) (λ i j. exactEdge px (suc i) j)
 

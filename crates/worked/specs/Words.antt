@@ -21,6 +21,7 @@ pub data Told : Type 0 where
   bytes : List ℕ → Told
   refusedBy : ℕ → Told
 
+-- an answer in these words
 abbrev pub toldOf : Coded → Told
 toldOf (C.Code head tail count) = bytes (codeBytes (C.Code head tail count))
 toldOf (C.Refused r) = refusedBy (number r)
@@ -41,12 +42,14 @@ whole z = near z 1
 abbrev pub between : Float → Float → Interval
 between a b = putInterval (record { lower = a; upper = b })
 
--- the pieces that `first_cut` and `later_cut` answer, and the point that `simple_fraction` answers; a refusal has no pieces
+-- the pieces that `first_cut` answers; a refusal has none
 abbrev pub firstWorked : Bool → Interval → List Interval
 firstWorked integer x = piecesOf (piecesAt (legalInterval x integer) (firstCut (putInterval x) integer))
 
+-- the pieces that `later_cut` answers
 abbrev pub laterWorked : Bool → Interval → List Interval
 laterWorked integer x = piecesOf (piecesAt (legalInterval x integer) (laterCut (putInterval x) integer))
 
+-- the point that `simple_fraction` answers
 abbrev pub fraction : Interval → Point
 fraction x = pointAnswer (legalInterval x false) (simpleFraction (putInterval x .lower) (putInterval x .upper))

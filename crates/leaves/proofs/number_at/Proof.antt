@@ -4,7 +4,7 @@ use native.Mathlib.Omega.{arith}
 use borrow.Author.Needs.{needs}
 use mathlib.Core.Path.{_≡_, ap, _∙_}
 use Rattle.base.specs.Bytes.{ofBigEndian}
-use lib.ListN.{take, drop, getD}
+use lib.ListN.{take, drop}
 use Prim.Native.Nat.{ℕ, _+_, _<_}
 use Rattle.leaves.proofs.NumberLaws.{ReadTo, read-none, read-next, read-room}
 use Rattle.leaves.proofs.number_at.Statement.{statement}
