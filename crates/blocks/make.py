@@ -7,11 +7,14 @@ crates. runs.txt has whole runs of the engine with the queue's bytes at each ste
 A record of data/cases is a length byte and so many bytes, the rest up to 256 counting as 0:
 
   byte 0   0 start   1 set, 2..3 ring length, 4..5 head, 6..7 use, 16.. the ring's bytes; both sides remember the starting values
-           1 append  1 answer (0 done, 1 no room, 2 not codable, 3 outside), 2..3 use after, 4..5 measured (65535: not codable), 8.. block
-           2 take    1 answer (0 front, 1 damaged, 2 outside), 2..3 head after, 4..5 use after, 8.. block
+           1 append  1 answer (0 done, 1 no room, 2 not codable, 3 outside), 2..3 use after, 4..5 measured (65535: not codable), 8.. block, 91.. memory
+           2 take    1 answer (0 front, 1 damaged, 2 outside), 2..3 head after, 4..5 use after, 8.. block, 91.. memory
            3 compare 16.. the ring's bytes
            4 recall  8.. block that both sides remember
   block    x index 8, x rank 1, y index 8, y rank 1, m n n_theta t 16 each (two f64, lower first), direction 1; all big-endian
+  memory   what is remembered once the block is queued, or taken: x index 8, y index 8, m n n_theta t 16 each
+
+Starts and recalls only set up; every other record is compared, and agrees or differs.
 """
 import os
 import struct
@@ -132,11 +135,15 @@ def block_bytes(b):
     return out + b"".join(bits(p) for p in b[2:6]) + bytes([b[6]])
 
 
+def memory_bytes(last):
+    return struct.pack(">QQ", *last[:2]) + b"".join(bits(p) for p in last[2:])
+
+
 class Replay:
     """The queue as it should be, writing a record for each thing done to it."""
 
     def __init__(self):
-        self.out, self.records = b"", 0
+        self.out, self.records, self.setup = b"", 0, 0
 
     def write(self, body):
         body = body.rstrip(b"\0") or b"\0"
@@ -147,10 +154,12 @@ class Replay:
     def start(self, s, ring, head=0, used=0):
         self.s, self.ring, self.head, self.used = s, bytearray(ring), head, used
         self.front = self.back = START
+        self.setup += 1
         self.write(struct.pack(">BBHHH8x", 0, s, len(ring), head, used) + bytes(ring))
 
     def recall(self, b):
         self.front = self.back = remembered(b)
+        self.setup += 1
         self.write(struct.pack(">B7x", 4) + block_bytes(b))
 
     def fits(self):
@@ -166,7 +175,7 @@ class Replay:
                 self.ring[(self.head + self.used) % len(self.ring)] = byte
                 self.used += 1
             self.back = remembered(kept)
-        self.write(struct.pack(">BBHH2x", 1, answer, self.used if answer == 0 else 0, len(code) if can else 65535) + block_bytes(b))
+        self.write(struct.pack(">BBHH2x", 1, answer, self.used if answer == 0 else 0, len(code) if can else 65535) + block_bytes(b) + memory_bytes(remembered(kept)))
         self.compare()
         return answer
 
@@ -180,7 +189,7 @@ class Replay:
         if got:
             self.head, self.used = (self.head + count) % len(self.ring), self.used - count
             self.front = remembered(b)
-        self.write(struct.pack(">BBHH2x", 2, answer, self.head if got else 0, self.used if got else 0) + (block_bytes(b) if got else b""))
+        self.write(struct.pack(">BBHH2x", 2, answer, self.head if got else 0, self.used if got else 0) + (block_bytes(b) + memory_bytes(remembered(b)) if got else b""))
         return got and b
 
     def compare(self):
@@ -327,6 +336,14 @@ def spelled_out(r):
         assert r.take()
 
 
+def illegal_memory(r):
+    """FF FF over a remembered interval that no block has is read as a block all the same."""
+    for p in ((2.0, 1.0), (0.5, 0.25), (INF, INF)):
+        r.start(9, bytes([1, 0, 1, 0, 255, 255, 255, 255, 1]), used=9)
+        r.recall(block(m=p, t=p))
+        assert r.take()
+
+
 def refused(r):
     r.start(63, bytes(90))
     for b in (
@@ -388,13 +405,13 @@ def runs(r):
 
 def main():
     r = Replay()
-    for part in (every_set, wraps, tight, long_codes, damaged, zeros, spelled_out, refused, runs):
+    for part in (every_set, wraps, tight, long_codes, damaged, zeros, spelled_out, illegal_memory, refused, runs):
         before = r.records
         part(r)
         print(part.__name__, r.records - before)
     print(r.records, "records,", len(r.out), "bytes")
     open(os.path.join(HERE, "data", "cases"), "wb").write(r.out)
-    open(os.path.join(HERE, "stdout"), "w").write(f"records that agree: {r.records}\nrecords that differ: 0\n")
+    open(os.path.join(HERE, "stdout"), "w").write(f"records that agree: {r.records - r.setup}\nrecords that differ: 0\nrecords that set up: {r.setup}\n")
 
 
 main()

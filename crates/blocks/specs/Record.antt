@@ -9,6 +9,7 @@ use Rattle.base.specs.Bytes.{ofBigEndian}
 use Rattle.coordinate.specs.declared.Coordinate.{Coordinate}
 use Rattle.interval.specs.declared.Interval.{Interval}
 use Rattle.queue.specs.declared.Block.{Block}
+use Rattle.queue.specs.declared.Last.{Last}
 use Rattle.queue.specs.declared.Measured.{Measured}
 use Rattle.queue.specs.declared.Measured.the-variants as M
 
@@ -40,6 +41,18 @@ blockAt rec at =
       dir = getD rec (at + 82) 0;
     }
 
+-- what is remembered
+unfoldable pub lastAt : List ℕ → ℕ → Last
+lastAt rec at =
+    record {
+      x = wordAt rec at;
+      y = wordAt rec (at + 8);
+      m = intervalAt rec (at + 16);
+      n = intervalAt rec (at + 32);
+      theta = intervalAt rec (at + 48);
+      t = intervalAt rec (at + 64);
+    }
+
 -- the same bits: zeros of either sign differ
 abbrev pub sameBounds : Interval → Interval → Bool
 sameBounds a b = eqb (toBits binary64 (a .lower)) (toBits binary64 (b .lower)) && eqb (toBits binary64 (a .upper)) (toBits binary64 (b .upper))
@@ -52,7 +65,11 @@ sameBlock a b =
     samePlace (a .x) (b .x) && samePlace (a .y) (b .y) && sameBounds (a .m) (b .m) && sameBounds (a .n) (b .n) && sameBounds (a .theta) (b .theta)
     && sameBounds (a .t) (b .t) && eqb (a .dir) (b .dir)
 
--- the length of a code, or 65535 for a block that has none
-abbrev pub sameMeasure : Measured → ℕ → Bool
-sameMeasure (M.Bytes count last) want = eqb count want
-sameMeasure M.NotCodable want = eqb want 65535
+unfoldable pub sameLast : Last → Last → Bool
+sameLast a b =
+    eqb (a .x) (b .x) && eqb (a .y) (b .y) && sameBounds (a .m) (b .m) && sameBounds (a .n) (b .n) && sameBounds (a .theta) (b .theta) && sameBounds (a .t) (b .t)
+
+-- the length of a code and what is remembered, or 65535 for a block that has none
+abbrev pub sameMeasure : Measured → ℕ → Last → Bool
+sameMeasure (M.Bytes count last) want memory = eqb count want && sameLast last memory
+sameMeasure M.NotCodable want memory = eqb want 65535

@@ -200,3 +200,33 @@ direction-inside s R.Damaged = tt
 pub decode-inside : (set : ℕ) (last : Last) (s : List ℕ) → Inside s (decode set last s)
 unfolding decode
 decode-inside set last s = direction-inside s (addParameters set last s parameters (placeRead last s))
+
+-- and a block takes a byte, its direction's at least
+abbrev TakesSome : Reading → Type 0
+TakesSome (R.Read b count) = 0 < count
+TakesSome R.Damaged = Unit {0}
+
+direction-takes : (s : List ℕ) (r : Reading) → TakesSome (addDirection s r)
+unfolding addDirection
+direction-takes s (R.Read b n) = go (ltb n (length s))
+  where
+    go : (t : Bool) → TakesSome (cond t (R.Read (record { x = b .x; y = b .y; m = b .m; n = b .n; theta = b .theta; t = b .t; dir = getD s n 0 }) (n + 1)) R.Damaged)
+    go true = omega arith
+    go false = tt
+direction-takes s R.Damaged = tt
+
+decode-takes : (set : ℕ) (last : Last) (s : List ℕ) → TakesSome (decode set last s)
+unfolding decode
+decode-takes set last s = direction-takes s (addParameters set last s parameters (placeRead last s))
+
+-- so a block read took one byte or more, and none that is not there
+pub read-takes : (set : ℕ) (last : Last) (s : List ℕ) (b : Block) (count : ℕ) → decode set last s ≡ R.Read b count → (0 < count) × (count ≤ length s)
+read-takes set last s b count e = (rw e at (decode-takes set last s), inside-read s (decode set last s) b count (decode-inside set last s) e)
+
+-- and no bytes are no block
+pub none-decodes : (set : ℕ) (last : Last) → decode set last [] ≡ R.Damaged
+none-decodes set last = go (decode set last []) refl
+  where
+    go : (r : Reading) → decode set last [] ≡ r → r ≡ R.Damaged
+    go (R.Read b n) e = absurd (omega (arith, read-takes set last [] b n e))
+    go R.Damaged e = refl

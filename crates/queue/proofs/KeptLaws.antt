@@ -1,8 +1,8 @@
 -- Which blocks come out as they went in: those that pass the test, as the queue keeps them; and those that were decoded. Assumes nothing.
 use mathlib.Core.Path.{_≡_, refl, sym, _∙_}
 use mathlib.Core.Bool.{Bool, true, false, not, _&&_, _||_, true≢false, false≢true}
-use Prim.Native.Nat.{ℕ, _^_, _<_}
-use lib.Dec.{T, lit<, leb, ltb}
+use Prim.Native.Nat.{ℕ, _^_}
+use lib.Dec.{lit<, leb, ltb}
 use lib.Ieee.{binary64, le}
 use lib.Ieee.Fits.{inf-fits}
 use borrow.Author.Tests.{lt-ltb, le-leb}
@@ -28,9 +28,10 @@ use Rattle.queue.proofs.RoundTrip.{ParameterFine, CanQueue, Known}
 line-format : InFormat wholeLine
 line-format = (inf-fits binary64 true, inf-fits binary64 false)
 
-line-legal : legalInterval wholeLine false ≡ true
-unfolding legalInterval le
-line-legal = refl
+pub line-legal : (integer : Bool) → legalInterval wholeLine integer ≡ true
+unfolding legalInterval le wholeBound
+line-legal true = refl
+line-legal false = refl
 
 line-put : putInterval wholeLine ≡ wholeLine
 unfolding putInterval zeroAs
@@ -120,7 +121,7 @@ fine-settled true integer p f e = record { proper = λ q. record { legal = put-l
 fine-settled false integer p f e = record { proper = λ q. absurd (false≢true q); line = λ q. refl }
 
 pub line-fine : (used : Bool) → ParameterFine used false wholeLine
-line-fine used = record { proper = λ q. record { legal = line-legal; put = line-put; format = line-format }; line = λ q. refl }
+line-fine used = record { proper = λ q. record { legal = line-legal false; put = line-put; format = line-format }; line = λ q. refl }
 
 pub can-queue : (set : ℕ) (b : Block) → canQueue set b ≡ true → ((d : Direction) → InFormat (parameterOf b d)) → CanQueue set (settled set b)
 unfolding settled
@@ -137,25 +138,17 @@ can-queue set b e f =
 
 -- ---- what is remembered is legal
 
-line-integer : legalInterval wholeLine true ≡ true
-unfolding legalInterval le wholeBound
-line-integer = refl
-
-line-always : (integer : Bool) → legalInterval wholeLine integer ≡ true
-line-always true = line-integer
-line-always false = line-legal
-
-fine-legal : (used integer : Bool) (p : Interval) → ParameterFine used integer p → legalInterval p integer ≡ true
+pub fine-legal : (used integer : Bool) (p : Interval) → ParameterFine used integer p → legalInterval p integer ≡ true
 fine-legal true integer p f = f .proper refl .legal
-fine-legal false integer p f = rw (f .line refl) (line-always integer)
+fine-legal false integer p f = rw (f .line refl) (line-legal integer)
 
 pub legal-after : (set : ℕ) (b : Block) → CanQueue set b → (d : Direction) → legalInterval (recalled (remembered b) d) (isInteger d) ≡ true
 legal-after set b c d = rw (recalled-is b d) (fine-legal (inUse set d) (isInteger d) (parameterOf b d) (c .fine d))
 
 pub legal-start : (d : Direction) → legalInterval (recalled startingLast d) (isInteger d) ≡ true
 unfolding startingLast
-legal-start D.XY = line-always false
-legal-start D.M = line-always true
-legal-start D.N = line-always true
-legal-start D.Theta = line-always true
-legal-start D.T = line-always false
+legal-start D.XY = line-legal false
+legal-start D.M = line-legal true
+legal-start D.N = line-legal true
+legal-start D.Theta = line-legal true
+legal-start D.T = line-legal false

@@ -1,13 +1,13 @@
 -- What take, measure and append answer, by the tests that the code makes. Assumes nothing.
 use mathlib.Core.Path.{_≡_, refl, sym, _∙_}
-use mathlib.Core.Bool.{Bool, true, false, not, _||_, true≢false, false≢true}
+use mathlib.Core.Bool.{Bool, true, false, not, _||_}
 use mathlib.Core.List.{List, _++_}
 use Prim.Native.Nat.{ℕ, _+_, _-_, _≤_, _<_}
 use native.Mathlib.Omega.{arith}
 use lib.Dec.{leb, ltb}
 use lib.ListN.{length, take}
 use lib.Seq.{sets}
-use borrow.Author.Tests.{ltb-true, leb-true, le-leb, lt-leb}
+use borrow.Author.Tests.{ltb-true, leb-true, le-leb, lt-leb, not-true, not-false}
 use Rattle.base.proofs.Test.{and-left, and-right}
 use Rattle.interval.specs.declared.Interval.{Interval}
 use Rattle.interval.specs.Bounds.{legalInterval}
@@ -31,12 +31,10 @@ use Rattle.queue.proofs.WriteLaws.{take-sets}
 use Rattle.queue.proofs.BlockReading.{inside-read, decode-inside}
 
 pub denied : (b : Bool) → not b ≡ true → b ≡ false
-denied true e = absurd (false≢true e)
-denied false e = refl
+denied = not-true
 
 pub granted : (b : Bool) → not b ≡ false → b ≡ true
-granted true e = refl
-granted false e = absurd (true≢false e)
+granted = not-false
 
 pub fits-both : (len head used : ℕ) → fitsRing len head used ≡ true → (head < len) × (used ≤ len)
 fits-both len head used e = (ltb-true head len (and-left (ltb head len) (leb used len) e), leb-true used len (and-right (ltb head len) (leb used len) e))
@@ -81,10 +79,10 @@ module _ (set : ℕ) (back : Last) (b : Block) where
   unfolding measured
   measured-no e = rw e
 
-  pub measured-yes : (kept : Block) (count : ℕ) (last : Last) → codable set back b ≡ true → kept ≡ settled set b → count ≡ 0 + length (encode set back kept) → last ≡ remembered kept
+  pub measured-yes : (kept : Block) (count : ℕ) (last : Last) → codable set back b ≡ true → kept ≡ settled set b → count ≡ length (encode set back kept) → last ≡ remembered kept
       → M.Bytes count last ≡ measured set back b
   unfolding measured
-  measured-yes kept count last e k c l = let z : 0 + length (encode set back (settled set b)) ≡ length (encode set back (settled set b)) = omega arith in rw (e, c, l, k, z)
+  measured-yes kept count last e k c l = rw (e, c, l, k)
 
 -- ---- append
 

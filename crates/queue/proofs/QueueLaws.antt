@@ -1,32 +1,33 @@
 -- The laws that callers cite: what bytes hold, that append appends and take gives the first, and that the bytes decode to it. Assumes nothing.
-use mathlib.Core.Path.{_≡_, refl, sym, ap, ap₂, _∙_}
-use mathlib.Core.Bool.{Bool, true, false, false≢true}
+use mathlib.Core.Path.{_≡_, refl, sym, ap, _∙_}
+use mathlib.Core.Bool.{true}
 use mathlib.Core.List.{List, [], _∷_, _++_, append-assoc, append-nil}
 use Prim.Native.Nat.{ℕ, suc, _+_, _-_, _≤_, _<_}
 use native.Mathlib.Omega.{arith}
 use lib.ListN.{length, drop, length-append}
 use lib.Seq.{drop-at}
-use borrow.Author.Tests.{le-leb}
-use Rattle.base.proofs.Test.{and-both}
+use Rattle.base.proofs.Test.{by-ltb, and-left, and-right, and-both}
+use Rattle.interval.specs.Bounds.{InFormat}
 use Rattle.queue.specs.declared.Block.{Block}
 use Rattle.queue.specs.declared.Last.{Last}
-use Rattle.queue.specs.declared.Taken.{Taken}
 use Rattle.queue.specs.declared.Taken.the-variants as T
 use Rattle.queue.specs.declared.Appended.the-variants as A
 use Rattle.queue.specs.declared.Measured.the-variants as M
-use Rattle.queue.specs.declared.read.Reading.{Reading}
+use Rattle.queue.specs.declared.directions.Direction.{Direction}
 use Rattle.queue.specs.declared.read.Reading.the-variants as R
 use Rattle.queue.specs.Ring.{content, fitsRing, wrapped, storedBehind}
-use Rattle.queue.specs.Block.{settled, remembered}
-use Rattle.queue.specs.Directions.{parameters}
-use Rattle.queue.specs.Code.{placeCode, parametersCode, encode, canQueue, indicesKnown}
+use Rattle.queue.specs.Block.{parameterOf, recalled, settled, remembered}
+use Rattle.queue.specs.Code.{encode, canQueue, indicesKnown}
 use Rattle.queue.specs.Decode.{decode}
-use Rattle.queue.specs.Queue.{takenWith, taken, codable, codeOfKept, measured, appended, appendedRing, queueOf, queueCodes, memory}
-use Rattle.queue.proofs.RingLaws.{content-length, content-store, content-take, store-append}
+use Rattle.queue.specs.Queue.{taken, codable, codeOfKept, measured, appended, appendedRing, queueOf, queueCodes, memory}
+use Rattle.queue.proofs.WriteLaws.{encode-length}
+use Rattle.queue.proofs.RingLaws.{content-length, content-store, content-take, store-append, length-stored}
+use Rattle.queue.proofs.QueueableLaws.{known-indices}
 use Rattle.queue.proofs.RoundTrip.{CanQueue, Known, decode-encode}
-use Rattle.queue.proofs.BlockReading.{inside-read, decode-inside}
-use Rattle.queue.proofs.KeptLaws.{known-after, known-test, can-test, settled-is}
+use Rattle.queue.proofs.BlockReading.{read-takes, none-decodes}
+use Rattle.queue.proofs.KeptLaws.{known-after, known-test, can-test, settled-is, can-queue}
 use Rattle.queue.proofs.QueueAnswers.{fits-both}
+use Rattle.queue.proofs.NumberLaws.{taken-parts, append-gives, appended-parts}
 
 -- of every block of a list
 abbrev pub Every : (Block → Type 0) → List Block → Type 0
@@ -103,6 +104,13 @@ holds-take {set} {front} {back} {bytes} {b} {q} h =
       },
     )
 
+-- DECODE AFTER ENCODE of a block that can be coded, as the queue keeps it, with any bytes behind
+pub kept-round : (set : ℕ) (last : Last) (b : Block) (rest : List ℕ) → codable set last b ≡ true → ((d : Direction) → InFormat (parameterOf b d))
+    → ((d : Direction) → InFormat (recalled last d)) → decode set last (codeOfKept set last b ++ rest) ≡ R.Read (settled set b) (length (codeOfKept set last b))
+kept-round set last b rest e f g =
+    let k = known-indices last (and-right (canQueue set b) (indicesKnown last) e) in
+    decode-encode set last (settled set b) rest (record { x = k .0; y = k .1; format = g }) (can-queue set b (and-left (canQueue set b) (indicesKnown last) e) f)
+
 -- what the writer remembers is what a block can have left
 pub known-back : {set : ℕ} {front back : Last} {bytes : List ℕ} {q : List Block} → BytesHold set front back bytes q → Known back
 known-back {set} {front} {q = q} h = rw (h .back-is) (known-memory set front q (h .known) (h .all))
@@ -122,10 +130,7 @@ queue-is (b ∷ q) {set} {front} {back} {bytes} h =
 
 -- a code has a byte, so the bytes of a queue are none only if it is empty
 pub encode-some : (set : ℕ) (last : Last) (b : Block) → 0 < length (encode set last b)
-unfolding encode
-encode-some set last b =
-    let ps : List ℕ = parametersCode set last b parameters in
-    omega (arith, length-append (placeCode last b) (ps ++ (b .dir ∷ [])), length-append ps (b .dir ∷ []))
+encode-some set last b = omega (arith, encode-length set last b)
 
 pub codes-some : (set : ℕ) (last : Last) (b : Block) (q : List Block) → 0 < length (queueCodes set last (b ∷ q))
 unfolding queueCodes
@@ -134,50 +139,19 @@ codes-some set last b q = omega (arith, length-append (encode set last b) (queue
 -- ---- what append and measure answer
 
 -- what can be queued can be coded
-can-code : (set : ℕ) (back : Last) (b : Block) → Known back → CanQueue set b → codable set back b ≡ true
+pub can-code : (set : ℕ) (back : Last) (b : Block) → Known back → CanQueue set b → codable set back b ≡ true
 can-code set back b k c = and-both (canQueue set b) (indicesKnown back) (can-test set b c) (known-test back k)
 
 pub measure-answers : (set : ℕ) (back : Last) (b : Block) → Known back → CanQueue set b → measured set back b ≡ M.Bytes (length (encode set back b)) (remembered b)
 unfolding measured
 measure-answers set back b k c = rw (can-code set back b k c, settled-is set b c)
 
-append-does : (len head used set : ℕ) (back : Last) (b : Block) → fitsRing len head used ≡ true → codable set back b ≡ true → settled set b ≡ b
-    → used + length (encode set back b) ≤ len → appended len head used set back b ≡ A.Done (remembered b) (used + length (encode set back b))
-unfolding appended
-append-does len head used set back b e f is room = rw (e, f, is, le-leb (used + length (encode set back b)) len room)
-
-append-stores : (ring : List ℕ) (head used set : ℕ) (back : Last) (b : Block) (last : Last) (n : ℕ) → appended (length ring) head used set back b ≡ A.Done last n
+pub append-stores : (ring : List ℕ) (head used set : ℕ) (back : Last) (b : Block) (last : Last) (n : ℕ) → appended (length ring) head used set back b ≡ A.Done last n
     → appendedRing ring head used set back b ≡ storedBehind ring head used (codeOfKept set back b)
 unfolding appendedRing
 append-stores ring head used set back b last n e = rw e
 
 -- ---- the ring
-
--- the parts of an answer
-abbrev isFront : Taken → Bool
-isFront (T.Front b l h u) = true
-isFront T.Damaged = false
-isFront T.Outside = false
-
-abbrev blockOf : Block → Taken → Block
-blockOf d (T.Front b l h u) = b
-blockOf d T.Damaged = d
-blockOf d T.Outside = d
-
-abbrev lastOf : Last → Taken → Last
-lastOf d (T.Front b l h u) = l
-lastOf d T.Damaged = d
-lastOf d T.Outside = d
-
-abbrev headOf : ℕ → Taken → ℕ
-headOf d (T.Front b l h u) = h
-headOf d T.Damaged = d
-headOf d T.Outside = d
-
-abbrev useOf : ℕ → Taken → ℕ
-useOf d (T.Front b l h u) = u
-useOf d T.Damaged = d
-useOf d T.Outside = d
 
 module _ (ring : List ℕ) (head used set : ℕ) (fits : fitsRing (length ring) head used ≡ true) where
   -- a ring of which the bytes used hold b and then q gives b, and then holds q
@@ -194,30 +168,44 @@ module _ (ring : List ℕ) (head used set : ℕ) (fits : fitsRing (length ring) 
       let inside : n ≤ used = omega (
         arith,
         content-length ring head used (omega (arith, f .0)) (f .1),
-        inside-read (content ring head used) (decode set front (content ring head used)) b n (decode-inside set front (content ring head used)) e,
+        read-takes set front (content ring head used) b n e,
       ) in
       (rw (fits, e), inside, rw (content-take ring head used n (f .0) (f .1) inside) r)
 
   -- what take answers is the first of the queue, whatever the bytes
   pub take-first : (front : Last) (b : Block) (last : Last) (head₁ used₁ n : ℕ) → taken ring head used set front ≡ T.Front b last head₁ used₁
       → queueOf set front (suc n) (content ring head used) ≡ b ∷ queueOf set last n (content ring head₁ used₁)
-  unfolding taken
-  take-first front b last head₁ used₁ n e = go (decode set front (content ring head used)) refl (rw fits at e)
+  take-first front b last head₁ used₁ n e = let t = taken-parts ring head used set front b last head₁ used₁ e in go (t .count) (t .read) (t .last-is) (t .head-is) (t .used-is)
     where
-      go : (r : Reading) → decode set front (content ring head used) ≡ r → takenWith (length ring) head used r ≡ T.Front b last head₁ used₁
+      go : (k : ℕ) → decode set front (content ring head used) ≡ R.Read b k → last ≡ remembered b → head₁ ≡ wrapped (length ring) (head + k) → used₁ ≡ used - k
           → queueOf set front (suc n) (content ring head used) ≡ b ∷ queueOf set last n (content ring head₁ used₁)
-      go (R.Read c k) d e =
+      go k d l h u =
           let f = fits-both (length ring) head used fits in
-          let inside : k ≤ used = omega (
-            arith,
-            content-length ring head used (omega (arith, f .0)) (f .1),
-            inside-read (content ring head used) (decode set front (content ring head used)) c k (decode-inside set front (content ring head used)) d,
-          ) in
-          let at : content ring head₁ used₁ ≡ drop k (content ring head used) =
-          ap₂ (content ring) (sym (ap (headOf 0) e)) (sym (ap (useOf 0) e)) ∙ content-take ring head used k (f .0) (f .1) inside in
-          queue-step set front n (content ring head used) c k d
-          ∙ rw (at, ← ap (blockOf c) e, ← ap (lastOf (remembered c)) e)
-      go R.Damaged d e = absurd (false≢true (ap isFront e))
+          let inside : k ≤ used = omega (arith, content-length ring head used (omega (arith, f .0)) (f .1), read-takes set front (content ring head used) b k d .1) in
+          queue-step set front n (content ring head used) b k d ∙ rw (l, h, u, content-take ring head used k (f .0) (f .1) inside)
+
+  -- the first of what the ring holds comes out, and what is left decodes to the rest
+  pub take-queue : {front back : Last} {b : Block} {q : List Block} → BytesHold set front back (content ring head used) (b ∷ q)
+      → (head₁ : ℕ) × (used₁ : ℕ) × (taken ring head used set front ≡ T.Front b (remembered b) head₁ used₁) × (queueOf set (remembered b) (length q) (content ring head₁ used₁) ≡ q)
+  take-queue {q = q} h = let (e, k, r) = take-answers h in (_, _, e, queue-is q r)
+
+  -- an empty queue has no front
+  pub take-none : {front back : Last} → BytesHold set front back (content ring head used) [] → taken ring head used set front ≡ T.Damaged
+  unfolding taken queueCodes
+  take-none {front} h = rw (fits, h .bytes-are, none-decodes set front)
+
+  -- the head taken lies in the ring, and its bytes are free
+  pub take-frees : (front : Last) (b : Block) (last : Last) (head₁ used₁ : ℕ) → taken ring head used set front ≡ T.Front b last head₁ used₁
+      → (head₁ < length ring) × (used₁ < used)
+  take-frees front b last head₁ used₁ e =
+      let t = taken-parts ring head used set front b last head₁ used₁ e in
+      let f = fits-both (length ring) head used fits in
+      let k = read-takes set front (content ring head used) b (t .count) (t .read) in
+      let inside : t .count ≤ used = omega (arith, content-length ring head used (omega (arith, f .0)) (f .1), k .1) in (
+        rw (t .head-is)
+            (by-ltb (λ (p : ℕ). p < length ring) (head + t .count) (length ring) (head + t .count) (head + t .count - length ring) (λ h. h) (λ h. omega (arith, f, inside))),
+        omega (arith, t .used-is, k .0, inside),
+      )
 
   -- a ring with room for b's code behind the bytes used takes it, and then holds b too, last
   pub append-answers : {front back : Last} {q : List Block} (b : Block) → BytesHold set front back (content ring head used) q → CanQueue set b
@@ -231,10 +219,39 @@ module _ (ring : List ℕ) (head used set : ℕ) (fits : fitsRing (length ring) 
       let one : BytesHold set front (remembered b) (content ring head used ++ code) (q ++ (b ∷ [])) = holds-one h c in
       let is : settled set b ≡ b = settled-is set b c in
       let can : codable set back b ≡ true = can-code set back b (known-back h) c in
-      let done : appended (length ring) head used set back b ≡ A.Done (remembered b) (used + length code) = append-does (length ring) head used set back b fits can is room in (
+      let done : appended (length ring) head used set back b ≡ A.Done (remembered b) (used + length code) =
+      append-gives (length ring) head used set back b fits can (rw is room) ∙ rw is in (
         done,
         append-stores ring head used set back b (remembered b) (used + length code) done ∙ rw is,
         rw (content-store code ring head used (f .0) room) one,
+      )
+
+  -- a ring that holds q holds q and then b, as the queue keeps it, once append was done with b
+  pub append-holds : {front back : Last} {q : List Block} (b : Block) (last : Last) (used₁ : ℕ) → BytesHold set front back (content ring head used) q
+      → ((d : Direction) → InFormat (parameterOf b d)) → appended (length ring) head used set back b ≡ A.Done last used₁
+      → BytesHold set front last (content (appendedRing ring head used set back b) head used₁) (q ++ (settled set b ∷ []))
+  append-holds {front} {back} {q} b last used₁ h format e =
+      let t = appended-parts (length ring) head used set back b last used₁ e in
+      let f = fits-both (length ring) head used fits in
+      let c : CanQueue set (settled set b) = can-queue set b (and-left (canQueue set b) (indicesKnown back) (t .can)) format in
+      let one : BytesHold set front (remembered (settled set b)) (content ring head used ++ codeOfKept set back b) (q ++ (settled set b ∷ [])) = holds-one h c in
+      rw (append-stores ring head used set back b last used₁ e, t .last-is, t .used-is, content-store (codeOfKept set back b) ring head used (f .0) (omega (arith, t .room, t .used-is))) one
+
+  -- so it decodes to q and then b
+  pub append-queue : {front back : Last} {q : List Block} (b : Block) (last : Last) (used₁ : ℕ) → BytesHold set front back (content ring head used) q
+      → ((d : Direction) → InFormat (parameterOf b d)) → appended (length ring) head used set back b ≡ A.Done last used₁
+      → queueOf set front (length q + 1) (content (appendedRing ring head used set back b) head used₁) ≡ q ++ (settled set b ∷ [])
+  append-queue {q = q} b last used₁ h format e =
+      rw (← length-append q (settled set b ∷ [])) (queue-is (q ++ (settled set b ∷ [])) (append-holds b last used₁ h format e))
+
+  -- the ring keeps its length, and the use grows and does not pass it
+  pub append-fills : (back : Last) (b : Block) (last : Last) (used₁ : ℕ) → appended (length ring) head used set back b ≡ A.Done last used₁
+      → (length (appendedRing ring head used set back b) ≡ length ring) × (used < used₁) × (used₁ ≤ length ring)
+  append-fills back b last used₁ e =
+      let t = appended-parts (length ring) head used set back b last used₁ e in (
+        rw (append-stores ring head used set back b last used₁ e) (length-stored (codeOfKept set back b) ring (wrapped (length ring) (head + used))),
+        omega (arith, t .used-is, encode-some set back (settled set b)),
+        t .room,
       )
 
   -- the bytes used are none if and only if no block is queued

@@ -6,13 +6,12 @@ use native.Mathlib.Omega.{arith}
 use native.Mathlib.Decide.{decLt}
 use native.Mathlib.Nat.{sub-zero}
 use native.Mathlib.Numerals.{add-one}
-use lib.Arith.{digits-lt}
 use lib.Bits.{bitXor}
 use lib.ListN.{length, getD, take, drop, set, length-append, length-drop, length-take, drop-of-length-le, List·getD-append}
-use lib.Pow.{pow-add}
 use lib.Seq.{sets, drop-cons, drop-drop, take-all, getD-drop, getD-append-add}
 use borrow.Author.Tests.{ne-eqb}
 use Rattle.base.specs.Bytes.{ofBigEndianFrom}
+use Rattle.base.proofs.BytesLaws.{big-lt}
 use Rattle.refusal.specs.declared.Refusal.{Refusal}
 use Rattle.small.specs.declared.SmallRead.{SmallRead}
 use Rattle.small.specs.declared.SmallRead.the-variants as S
@@ -135,4 +134,4 @@ word-step s at i v h k =
     rw (e, drop-cons s (at + i) 0 (omega arith), f)
 
 pub word-fits : (i v b : ℕ) → v < 2 ^ (8 * i) → b < 256 → v * 256 + b < 2 ^ (8 * (i + 1))
-word-fits i v b h k = let e : 8 * (i + 1) ≡ 8 * i + 8 = omega arith in rw (e, pow-add) (digits-lt h k)
+word-fits = big-lt

@@ -36,7 +36,7 @@ use Rattle.queue.specs.Directions.{inUse, parameters}
 use Rattle.queue.specs.Block.{wholeLine, isInteger, parameterOf, withParameter, recalled}
 use Rattle.queue.specs.Code.{levelByte, coordinateCode, boundsCode, parameterCode, parametersCode, placeCode, encode}
 use Rattle.queue.specs.Decode.{levelOf, levelRead, coordinateOf, coordinateRead, boundsOf, boundsRead, usedRead, parameterRead, withX, placeRead, addParameter, addParameters, addDirection, decode}
-use Rattle.queue.proofs.WriteLaws.{coordinate-length, bounds-length, xor-under}
+use Rattle.queue.proofs.WriteLaws.{coordinate-length, bounds-length, xor-under, encode-length}
 use Rattle.queue.proofs.Xor.{xor-cancel}
 
 -- ---- a coordinate
@@ -219,12 +219,6 @@ unfolding encode
 encode-flat set last b rest =
     let ps : List ℕ = parametersCode set last b parameters in
     append-assoc (placeCode last b) (ps ++ (b .dir ∷ [])) rest ∙ ap (λ (l : List ℕ). placeCode last b ++ l) (append-assoc ps (b .dir ∷ []) rest)
-
-encode-length : (set : ℕ) (last : Last) (b : Block) → length (placeCode last b) + length (parametersCode set last b parameters) + 1 ≡ length (encode set last b)
-unfolding encode
-encode-length set last b =
-    let ps : List ℕ = parametersCode set last b parameters in
-    omega (arith, length-append (placeCode last b) (ps ++ (b .dir ∷ [])), length-append ps (b .dir ∷ []))
 
 -- DECODE AFTER ENCODE, with any bytes behind
 pub decode-encode : (set : ℕ) (last : Last) (b : Block) (rest : List ℕ) → Known last → CanQueue set b

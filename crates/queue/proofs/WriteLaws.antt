@@ -2,7 +2,7 @@
 use mathlib.Core.Path.{_≡_, refl, sym, ap, _∙_}
 use mathlib.Core.Bool.{Bool, true, false, not, cond, true≢false, false≢true}
 use mathlib.Core.List.{List, [], _∷_, _++_}
-use Prim.Native.Nat.{ℕ, suc, _+_, _-_, _*_, _/_, _%_, _^_, _≤_, _<_}
+use Prim.Native.Nat.{ℕ, suc, _+_, _*_, _/_, _%_, _^_, _≤_, _<_}
 use native.Mathlib.Omega.{arith}
 use native.Mathlib.Nat.{add-zero}
 use native.Mathlib.Numerals.{add-one}
@@ -166,3 +166,10 @@ pub place-few : (last : Last) (b : Block) → last .x < 2 ^ 47 → last .y < 2 ^
 unfolding placeCode
 place-few last b h k p q =
     omega (arith, length-append (coordinateCode (last .x) (b .x)) (coordinateCode (last .y) (b .y)), coordinate-few (last .x) (b .x) h p, coordinate-few (last .y) (b .y) k q)
+
+-- a block's code is its place, its parameters and a direction byte
+pub encode-length : (set : ℕ) (last : Last) (b : Block) → length (placeCode last b) + length (parametersCode set last b parameters) + 1 ≡ length (encode set last b)
+unfolding encode
+encode-length set last b =
+    let ps : List ℕ = parametersCode set last b parameters in
+    omega (arith, length-append (placeCode last b) (ps ++ (b .dir ∷ [])), length-append ps (b .dir ∷ []))

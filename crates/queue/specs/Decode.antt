@@ -58,7 +58,8 @@ boundsOf (B.Refused why) = P.Damaged
 unfoldable pub boundsRead : Bool → List ℕ → ParameterRead
 boundsRead integer s = cond (leb 16 (length s)) (boundsOf (fromBits (ofBigEndian (take 8 s)) (ofBigEndian (take 8 (drop 8 s))) integer)) P.Damaged
 
--- a used parameter: FF FF is the remembered one; an unused one is the whole line and took no byte
+-- a used parameter: FF FF is the remembered one; an unused one is the whole line and took no byte.
+-- FF FF over an illegal remembered interval is read as a block all the same: the record's own test refuses such a memory before a block is taken.
 unfoldable pub usedRead : Bool → Interval → List ℕ → ParameterRead
 usedRead integer last s =
     cond (leb 2 (length s))

@@ -164,8 +164,10 @@ pub(crate) fn put_block(out: &mut [u8], set: u8, last: Last, b: Block) -> usize
 fn is_fine(set: u8, b: Block, d: Direction) -> bool
     ensures { λ r. ⌜ r ≡ parameterLegal set b d ⌝ }
 {
-    let p = parameter_of(b, d);
-    !is_used(set, d) | interval::is_legal(p, is_integer(d))
+    if !is_used(set, d) {
+        return true;
+    }
+    interval::is_legal(parameter_of(b, d), is_integer(d))
 }
 
 // Whether the block can be queued.

@@ -71,7 +71,7 @@ pub fn with_parameter(b: Block, d: Direction, p: Interval) -> Block
 }
 
 // What is remembered of a parameter; the whole line where the direction is none.
-pub fn recall(last: Last, d: Direction) -> Interval
+pub(crate) fn recall(last: Last, d: Direction) -> Interval
     ensures { λ r. ⌜ r ≡ recalled last d ⌝ }
 {
     match d {

@@ -13,6 +13,7 @@ use coordinate::Coordinate;
 use interval::Interval;
 use kept::remember;
 use kept::settle;
+use length::block_length;
 use read::Reading;
 use read::read_block;
 use ring::move_on;
@@ -23,6 +24,7 @@ use ring::store;
 mod code;
 pub mod directions;
 pub mod kept;
+mod length;
 pub mod read;
 pub mod ring;
 
@@ -130,8 +132,7 @@ pub fn measure(set: u8, back: Last, b: Block) -> Measured
         return Measured::NotCodable;
     }
     let kept = settle(set, b);
-    let mut code = [0u8; 83];
-    let count = put_block(&mut code, set, back, kept);
+    let count = block_length(set, back, kept);
     let last = remember(kept);
     Measured::Bytes { count, last }
 }

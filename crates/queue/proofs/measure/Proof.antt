@@ -1,6 +1,5 @@
 -- `measure` meets its contract. Assumes nothing.
 use mathlib.Core.Path.{sym, _∙_}
-use native.Mathlib.Omega.{arith}
 use Rattle.queue.proofs.QueueAnswers.{denied, granted, codable-both, measured-no, measured-yes}
 use borrow.Author.Needs.{needs}
 use Rattle.queue.proofs.measure.Statement.{statement}
@@ -17,23 +16,21 @@ returns c =
 settle-requires : tie.Need-settle-requires
 settle-requires c κs = search needs
 
-slice-aggregate-put-block : tie.Need-slice-aggregate-put-block
-slice-aggregate-put-block c = search needs
-
-put-block-requires : tie.Need-put-block-requires
-put-block-requires c κs =
-    let a = c .before .before .before .before .args in
-    let k = codable-both (a .set) (a .back) (a .b) (sym (c .before .before .before .is-codable .ensures) ∙ granted _ (c .before .before .if1 .left)) in
-    (omega arith, rw (c .before .settle .ensures) (k .0), k .1)
+block-length-requires : tie.Need-block-length-requires
+block-length-requires c κs =
+    let a = c .before .before .before .args in
+    let k = codable-both (a .set) (a .back) (a .b) (sym (c .before .before .is-codable .ensures) ∙ granted _ (c .before .if1 .left)) in
+    (rw (c .settle .ensures) (k .0), k .1)
 
 remember-requires : tie.Need-remember-requires
 remember-requires c κs = search needs
 
 returns-2 : tie.Need-returns-2
 returns-2 c =
-    let a = c .before .before .before .before .before .before .before .args in
-    measured-yes (a .set) (a .back) (a .b) (c .before .before .before .before .settle .result) _ (c .remember .result) (sym (c .before .before .before .before .before .before .is-codable .ensures) ∙ granted _ (c .before .before .before .before .before .if1 .left))
-    (c .before .before .before .before .settle .ensures) (c .before .before .put-block .ensures .0) (c .remember .ensures)
+    let a = c .before .before .before .before .before .args in
+    let k = c .before .before .settle in
+    measured-yes (a .set) (a .back) (a .b) (k .result) _ (c .remember .result) (sym (c .before .before .before .before .is-codable .ensures) ∙ granted _ (c .before .before .before .if1 .left))
+    (k .ensures) (c .before .block-length .ensures) (c .remember .ensures)
 
 pub measure-spec : {M : Type 1} → statement M
 measure-spec =
@@ -42,7 +39,6 @@ measure-spec =
     is-codable-requires
     returns
     settle-requires
-    slice-aggregate-put-block
-    put-block-requires
+    block-length-requires
     remember-requires
     returns-2)

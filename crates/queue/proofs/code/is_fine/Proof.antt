@@ -1,13 +1,21 @@
 -- `is_fine` meets its contract. Assumes nothing.
+use mathlib.Core.Path.{sym, _∙_}
+use Rattle.queue.proofs.QueueAnswers.{denied, granted}
+use Rattle.queue.proofs.QueueableLaws.{fine-unused, fine-used}
 use borrow.Author.Needs.{needs}
 use Rattle.queue.proofs.code.is_fine.Statement.{statement}
 use Rattle.queue.proofs.code.is_fine.Tie as tie
 
-parameter-of-requires : tie.Need-parameter-of-requires
-parameter-of-requires c κs = search needs
-
 is-used-requires : tie.Need-is-used-requires
 is-used-requires c κs = search needs
+
+returns : tie.Need-returns
+returns c =
+    let a = c .before .before .args in
+    fine-unused (a .set) (a .b) (a .d) (sym (c .before .is-used .ensures) ∙ denied _ (c .if1 .taken))
+
+parameter-of-requires : tie.Need-parameter-of-requires
+parameter-of-requires c κs = search needs
 
 is-integer-requires : tie.Need-is-integer-requires
 is-integer-requires c κs = search needs
@@ -15,11 +23,19 @@ is-integer-requires c κs = search needs
 is-legal-requires : tie.Need-is-legal-requires
 is-legal-requires c κs = search needs
 
-returns : tie.Need-returns
-returns c =
-    rw (c .before .before .is-used .ensures, c .is-legal .ensures, c .before .before .before .parameter-of .ensures, c .before .is-integer .ensures)
+returns-2 : tie.Need-returns-2
+returns-2 c =
+    let a = c .before .before .before .before .before .args in
+    fine-used (a .set) (a .b) (a .d) (c .before .before .parameter-of .result) (c .before .is-integer .result) (c .is-legal .result)
+    (sym (c .before .before .before .before .is-used .ensures) ∙ granted _ (c .before .before .before .if1 .left)) (c .before .before .parameter-of .ensures) (c .before .is-integer .ensures) (c .is-legal .ensures)
 
 pub is-fine-spec : {M : Type 1} → statement M
 is-fine-spec =
     tie.close
-    (tie.spec parameter-of-requires is-used-requires is-integer-requires is-legal-requires returns)
+    (tie.spec
+    is-used-requires
+    returns
+    parameter-of-requires
+    is-integer-requires
+    is-legal-requires
+    returns-2)

@@ -2,7 +2,6 @@
 use mathlib.Core.Path.{sym, ap, _∙_}
 use mathlib.Core.List.{_++_}
 use lib.ListN.{length-append}
-use Prim.Native.Nat.{_+_, _-_}
 use Rattle.queue.specs.Decode.{boundsOf}
 use Rattle.queue.proofs.BlockReading.{bounds-short, bounds-some}
 use borrow.Author.Needs.{needs}

@@ -1,7 +1,7 @@
 -- `same_bounds` meets its contract. Assumes nothing.
 use borrow.Author.Needs.{needs}
-use Rattle.blocks.proofs.same_bounds.Statement.{statement}
-use Rattle.blocks.proofs.same_bounds.Tie as tie
+use Rattle.blocks.proofs.record.same_bounds.Statement.{statement}
+use Rattle.blocks.proofs.record.same_bounds.Tie as tie
 
 bits-of-requires : tie.Need-bits-of-requires
 bits-of-requires c κs = search needs

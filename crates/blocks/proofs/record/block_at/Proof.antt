@@ -1,8 +1,8 @@
 -- `block_at` meets its contract. Assumes nothing.
 use Rattle.blocks.specs.Record.{blockAt}
 use borrow.Author.Needs.{needs}
-use Rattle.blocks.proofs.block_at.Statement.{statement}
-use Rattle.blocks.proofs.block_at.Tie as tie
+use Rattle.blocks.proofs.record.block_at.Statement.{statement}
+use Rattle.blocks.proofs.record.block_at.Tie as tie
 
 coordinate-at-requires : tie.Need-coordinate-at-requires
 coordinate-at-requires c κs = search needs

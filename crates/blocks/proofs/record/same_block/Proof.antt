@@ -1,8 +1,8 @@
 -- `same_block` meets its contract. Assumes nothing.
 use Rattle.blocks.specs.Record.{sameBlock}
 use borrow.Author.Needs.{needs}
-use Rattle.blocks.proofs.same_block.Statement.{statement}
-use Rattle.blocks.proofs.same_block.Tie as tie
+use Rattle.blocks.proofs.record.same_block.Statement.{statement}
+use Rattle.blocks.proofs.record.same_block.Tie as tie
 
 same-place-requires : tie.Need-same-place-requires
 same-place-requires c κs = search needs

@@ -1,8 +1,8 @@
 -- `interval_at` meets its contract. Assumes nothing.
 use Rattle.blocks.specs.Record.{intervalAt}
 use borrow.Author.Needs.{needs}
-use Rattle.blocks.proofs.interval_at.Statement.{statement}
-use Rattle.blocks.proofs.interval_at.Tie as tie
+use Rattle.blocks.proofs.record.interval_at.Statement.{statement}
+use Rattle.blocks.proofs.record.interval_at.Tie as tie
 
 word-at-requires : tie.Need-word-at-requires
 word-at-requires c κs = search needs

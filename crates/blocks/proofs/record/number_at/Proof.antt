@@ -1,8 +1,8 @@
 -- `number_at` meets its contract. Assumes nothing.
 use native.Mathlib.Omega.{arith}
 use borrow.Author.Needs.{needs}
-use Rattle.blocks.proofs.number_at.Statement.{statement}
-use Rattle.blocks.proofs.number_at.Tie as tie
+use Rattle.blocks.proofs.record.number_at.Statement.{statement}
+use Rattle.blocks.proofs.record.number_at.Tie as tie
 
 shared-slice-read-place : tie.Need-shared-slice-read-place
 shared-slice-read-place c = search needs

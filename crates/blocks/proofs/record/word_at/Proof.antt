@@ -8,8 +8,8 @@ use lib.Pow.{pow-mono}
 use Rattle.base.specs.Bytes.{ofBigEndianFrom, ofBigEndian}
 use Rattle.queue.proofs.ReadLaws.{word-step, word-fits}
 use borrow.Author.Needs.{needs}
-use Rattle.blocks.proofs.word_at.Statement.{statement}
-use Rattle.blocks.proofs.word_at.Tie as tie
+use Rattle.blocks.proofs.record.word_at.Statement.{statement}
+use Rattle.blocks.proofs.record.word_at.Tie as tie
 
 abbrev Inv-loop : tie.InvT-loop
 Inv-loop rec at v₀ i₀ v i = (i ≤ 8) × (v < 2 ^ (8 * i)) × (ofBigEndianFrom v (take (8 - i) (drop (at + i) rec)) ≡ ofBigEndian (take 8 (drop at rec)))

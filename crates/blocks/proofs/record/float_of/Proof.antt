@@ -1,14 +1,14 @@
 -- `float_of` meets its contract: which patterns are a NaN's. Assumes nothing.
 use mathlib.Core.Path.{_≡_, refl, sym, _∙_, subst}
-use mathlib.Core.Bool.{Bool, true, false, not, false≢true}
+use mathlib.Core.Bool.{Bool, true, not, false≢true}
 use Prim.Native.Nat.{_%_, _^_}
 use lib.Dec.{T}
 use lib.Ieee.{Float, nan, inf, fin, binary64, div, ofBits, isNan}
 use lib.Ieee.Bits.{nanBits-is}
 use borrow.Author.Tests.{lt-ltb, le-ltb}
 use Rattle.interval.proofs.BoundBits.{nan-patterns}
-use Rattle.blocks.proofs.float_of.Statement.{statement}
-use Rattle.blocks.proofs.float_of.Tie as tie
+use Rattle.blocks.proofs.record.float_of.Statement.{statement}
+use Rattle.blocks.proofs.record.float_of.Tie as tie
 
 is-nan : (x : Float) → isNan x ≡ true → x ≡ nan
 unfolding isNan

@@ -1,8 +1,8 @@
 -- `coordinate_at` meets its contract. Assumes nothing.
 use Rattle.blocks.specs.Record.{coordinateAt}
 use borrow.Author.Needs.{needs}
-use Rattle.blocks.proofs.coordinate_at.Statement.{statement}
-use Rattle.blocks.proofs.coordinate_at.Tie as tie
+use Rattle.blocks.proofs.record.coordinate_at.Statement.{statement}
+use Rattle.blocks.proofs.record.coordinate_at.Tie as tie
 
 word-at-requires : tie.Need-word-at-requires
 word-at-requires c κs = search needs
