@@ -2,7 +2,7 @@
 use mathlib.Core.Path.{_≡_, refl, sym, ap, _∙_}
 use mathlib.Core.Bool.{Bool, true, false, cond, true≢false}
 use mathlib.Core.List.{List, [], _∷_}
-use Prim.Native.Nat.{ℕ, zero, suc, _-_, _*_, _/_, _≤_, _<_}
+use Prim.Native.Nat.{ℕ, zero, suc, _-_, _*_, _/_, _^_, _≤_, _<_}
 use native.Mathlib.Omega.{arith}
 use lib.Dec.{ltb}
 use lib.ListN.{length}
@@ -258,3 +258,10 @@ child-can-queue p b c h f = record { x = ranged ordinaryFloor (c .x .rank) (c .x
 pub children-can-queue : (p : Picture) (b : Block) → sound p b ≡ true → CanQueue (p .set) b → Each (CanQueue (p .set)) (childrenOf p b)
 children-can-queue p b ok q =
     each-both (ChildPlace p b) (Fine (p .set)) (CanQueue (p .set)) (child-can-queue p b) (childrenOf p b) (children-placed p b ok) (children-fine p b ok (q .fine))
+
+-- an index stays under 2^47
+pub children-bounded : (p : Picture) (b : Block) → sound p b ≡ true → Each (λ c. (c .x .index < 2 ^ 47) × (c .y .index < 2 ^ 47)) (childrenOf p b)
+children-bounded p b ok =
+    each-also (ChildPlace p b) (λ c. (c .x .index < 2 ^ 47) × (c .y .index < 2 ^ 47))
+    (λ c h. (ranged ordinaryFloor (c .x .rank) (c .x .index) (h .x .in-ranges) .bound, ranged ordinaryFloor (c .y .rank) (c .y .index) (h .y .in-ranges) .bound))
+    (childrenOf p b) (children-placed p b ok)

@@ -185,7 +185,7 @@ module _ (P Q : Block → Type 0) (turn : Block → Turned) (to : (c d : Block) 
   one-queued c (T.To d) e h es k = (to c d h e, k)
   one-queued c T.Nowhere e h es k = k
 
-  each-queued : (cs : List Block) (os : List Outcome) → Each P cs → Each Q (queuedBy (turnEvents turn cs os))
+  pub each-queued : (cs : List Block) (os : List Outcome) → Each P cs → Each Q (queuedBy (turnEvents turn cs os))
   unfolding turnEvents queuedBy
   each-queued [] os h = tt
   each-queued (c ∷ cs) [] h = tt
@@ -196,6 +196,9 @@ module _ (P Q : Block → Type 0) (turn : Block → Turned) (to : (c d : Block) 
 -- a turned block covers what it covered
 turned-covers : (p : Picture) (c d : Block) → TurnsTo p c d → (px py : ℕ) → covers d px py ≡ covers c px py
 turned-covers p c d t px py = ap (λ (w : Block). covers w px py) (t .same)
+
+pub turned-narrower : (p : Picture) (b : Block) (n : ℕ) (c d : Block) → Narrower b c → turned p b n c ≡ T.To d → Narrower b d
+turned-narrower p b n c d h e px py t = h px py (sym (turned-covers p c d (turns p b n c d e) px py) ∙ t)
 
 module _ (p : Picture) (b : Block) (ok : sound p b ≡ true) (os : List Outcome) where
   abbrev turn : Block → Turned
@@ -208,9 +211,7 @@ module _ (p : Picture) (b : Block) (ok : sound p b ≡ true) (os : List Outcome)
       let n = each-also (λ c. Lies b c) (Narrower b) (lies-narrower b) (childrenOf p b) (children-lie p b ok) in
       event-append (Narrower b) (markEvents (childrenOf p b) os) (turnEvents turn (childrenOf p b) os)
       (event-marks (Narrower b) (childrenOf p b) os n)
-      (event-turns (Narrower b) (Narrower b) turn
-      (λ c d h e px py t. h px py (sym (turned-covers p c d (turns p b (openCount os) c d e) px py) ∙ t))
-      (childrenOf p b) os n)
+      (event-turns (Narrower b) (Narrower b) turn (turned-narrower p b (openCount os)) (childrenOf p b) os n)
 
   -- each new block is undamaged in the same picture, and comes out of the queue as it goes in
   pub queued-sound : Fine (p .set) b → Each (λ d. (sound p d ≡ true) × CanQueue (p .set) d) (queuedBy (eventsFor p b (childrenOf p b) os))

@@ -1,4 +1,4 @@
--- The outcomes of all children from the cells as given are those of "each child in turn". Assumes nothing.
+-- The outcomes of all children from the cells as given are those of one child after the other. Assumes nothing.
 use mathlib.Core.Path.{_≡_, refl, sym, ap, _∙_}
 use mathlib.Core.Bool.{Bool, true, false, cond, _&&_, _||_}
 use mathlib.Core.List.{List, [], _∷_}
@@ -71,7 +71,7 @@ module _ (p : Picture) (cells : List ℕ) where
       (in-turn-from same (marked || t) (after c t l) cs vs k (r .1)
       (each-both (Beside same c) (Sees same marked l) (Sees same (marked || t) (after c t l)) (λ d b z. sees-on same marked t l c d h b z) cs (r .0) (s .1))))
 
--- "each child in turn" and all at once are the same
+-- one after the other and all at once are the same
 pub at-once : (p : Picture) (b : Block) (cells vs : List ℕ) → sound p b ≡ true → p .width * p .height ≤ length cells
     → outcomes p (meanings cells) (childrenOf p b) vs ≡ atOnce p (alike p b) cells false (childrenOf p b) vs
 at-once p b cells vs ok h =

@@ -12,3 +12,4 @@ pub mod PlanLaws
 pub mod ChildLaws
 pub mod QueuedLaws
 pub mod EventLaws
+pub mod GiveUpLaws

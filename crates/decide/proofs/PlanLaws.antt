@@ -228,7 +228,7 @@ module _ (p : Picture) (b : Block) (same : Bool) (cells : List ℕ) (cs : List B
       rw inc (turned-closed p b n (unturned (length cs) judged) 0 (judged .at)
       ∙ same-plan _ _ (length cs) _ _ _ _ _ _ (stored ∙ places ∙ padded) counted (closed .evaluated ∙ zero-add (evaluations os)) (closed .legal))
 
--- THE PLAN IS THE ONE OF "EACH CHILD IN TURN"
+-- THE PLAN IS THAT OF ONE CHILD AFTER THE OTHER
 
 module _ (p : Picture) (b : Block) (vs cells : List ℕ) where
   abbrev kids : List Block

@@ -1,5 +1,5 @@
 -- The outcomes of all children from the cells as given, before any is marked: what the code computes. The law `at-once` says that they are the
--- outcomes of "each child in turn". Children of one step cover all the same pixels, or no two of them cover a pixel together.
+-- outcomes of one child after the other. Children of one step cover all the same pixels, or no two of them cover a pixel together.
 use mathlib.Core.Bool.{Bool, true, false, cond, _&&_, _||_}
 use mathlib.Core.List.{List, [], _∷_, map}
 use Prim.Native.Nat.{ℕ, suc, _+_}

@@ -1,4 +1,4 @@
--- Document 01: "A step takes the front block and lists its children, at most four, in order".
+-- Document 01, the sentence of the step that lists the children of a block, by its direction.
 use mathlib.Core.Bool.{Bool, cond, _&&_, _||_}
 use mathlib.Core.List.{List, [], _∷_, _++_, map}
 use Prim.Native.Nat.{_+_, _-_}
@@ -23,7 +23,7 @@ use Rattle.decide.specs.Damage.{sound, directionOf}
 abbrev pub movedTo : Block → Coordinate → Coordinate → Block
 movedTo b x y = record { x = x; y = y; m = b .m; n = b .n; theta = b .theta; t = b .t; dir = b .dir }
 
--- "along xy (0,0), (1,0), (0,1), (1,1)"
+-- xy: the four pairs of halves, x moving first
 unfoldable pub quartersOf : Block → List Block
 quartersOf b =
     movedTo b (lowHalf (b .x)) (lowHalf (b .y)) ∷ movedTo b (highHalf (b .x)) (lowHalf (b .y))
@@ -38,15 +38,15 @@ unfoldable pub keptInside : Picture → List Block → List Block
 keptInside p [] = []
 keptInside p (b ∷ l) = cond (beginsInside p b) (b ∷ keptInside p l) (keptInside p l)
 
--- "above level 0 without those outside the picture"
+-- above level 0 only those inside are children, from level 0 down all four
 unfoldable pub childrenXY : Picture → Block → List Block
 childrenXY p b = cond (ltb 48 (b .x .rank)) (keptInside p (quartersOf b)) (quartersOf b)
 
--- "along a parameter the later cut"
+-- a parameter: the pieces of its later cut, all else unchanged
 unfoldable pub childrenCut : Block → Direction → List Block
 childrenCut b d = map (withParameter b d) (laterCut (putInterval (parameterOf b d)) (isInteger d))
 
--- "with no direction the block itself"
+-- by the direction; where there is none the block is its own child
 abbrev pub childrenAlong : Picture → Block → DirectionAt → List Block
 childrenAlong p b (A.Along D.XY) = childrenXY p b
 childrenAlong p b (A.Along D.M) = childrenCut b D.M

@@ -1,5 +1,5 @@
--- Document 01, "Numbers of refusal": which pictures are legal, and which blocks are damaged. What is said there of a block's bytes is `queue`'s,
--- and "a covered cell over 2^32 + 1" stands at the end of this page.
+-- Document 01, the table of refusals: which pictures are legal (rows 1 and 3), and when a block that was decoded is damaged (the list under row 8).
+-- Whether bytes decode is `queue`'s to say; the cells that a block covers stand at the end of this page.
 use mathlib.Core.Bool.{Bool, true, false, _&&_}
 use mathlib.Core.List.{List}
 use Prim.Native.Nat.{ℕ}
@@ -22,11 +22,11 @@ use Rattle.queue.specs.declared.directions.DirectionAt.the-variants as A
 use Rattle.queue.specs.Directions.{directions, directionAt}
 use Rattle.decide.specs.declared.Picture.{Picture}
 
--- "a side is 0 or over 32768", the other way round
+-- a side that row 1 does not refuse
 abbrev pub legalSide : ℕ → Bool
 legalSide side = leb 1 side && leb side 32768
 
--- "variable set over 63", the other way round
+-- a variable set that row 3 does not refuse
 abbrev pub legalSet : ℕ → Bool
 legalSet set = leb set 63
 
@@ -37,11 +37,11 @@ legalPicture p = legalSide (p .width) && legalSide (p .height) && legalSet (p .s
 abbrev pub directionOf : Picture → Block → DirectionAt
 directionOf p b = directionAt (directions (p .set)) (b .dir)
 
--- in the ranges, and not "a pixel outside"
+-- a coordinate is in the ranges for index and level, and begins inside its side
 abbrev pub placeRight : ℕ → Coordinate → Bool
 placeRight side c = legal ordinaryFloor c && inside side (c .rank) (c .index)
 
--- not "xy at level -32"
+-- a direction that the block can be cut along: xy only above the floor
 abbrev pub cuttable : Block → Direction → Bool
 cuttable b D.XY = aboveFloor ordinaryFloor (b .x .rank)
 cuttable b D.M = true
@@ -49,16 +49,16 @@ cuttable b D.N = true
 cuttable b D.Theta = true
 cuttable b D.T = true
 
--- not "an unused direction (0 is right where there are none)"
+-- the byte names a direction in use; where none is in use it is 0
 abbrev pub directionRight : Picture → Block → DirectionAt → Bool
 directionRight p b (A.Along d) = cuttable b d
 directionRight p b A.Beyond = eqb (length (directions (p .set))) 0 && eqb (b .dir) 0
 
--- not "a parameter illegal"
+-- all four parameters are intervals; m, n and n_theta with whole bounds
 abbrev pub parametersRight : Block → Bool
 parametersRight b = legalInterval (b .m) true && legalInterval (b .n) true && legalInterval (b .theta) true && legalInterval (b .t) false
 
--- not damaged: the levels agree, and none of the above
+-- not damaged: one level for x and y, and all of the above
 unfoldable pub undamaged : Picture → Block → Bool
 undamaged p b =
     eqb (b .x .rank) (b .y .rank) && placeRight (p .width) (b .x) && placeRight (p .height) (b .y)
@@ -72,7 +72,7 @@ sound p b = legalPicture p && undamaged p b
 abbrev pub coveredCells : Picture → Block → List Cell → List Cell
 coveredCells p b l = heldCells (p .width) (rectangleOf (b .x) (b .y) (p .width) (p .height)) l
 
--- "a covered cell over 2^32 + 1"
+-- one of them holds no number, nor True, nor given up
 unfoldable pub cellDamaged : Picture → Block → List Cell → Bool
 cellDamaged p b l = someOf isDamaged (coveredCells p b l)
 

@@ -1,4 +1,4 @@
--- Document 01, the step on cells: "Each child in turn", then "each incomplete child". Everything is on the meanings of the cells.
+-- Document 01, what a step does to cells and queue: first the children one after the other, then the incomplete ones. All on the meanings of cells.
 use mathlib.Core.Bool.{Bool, cond}
 use mathlib.Core.List.{List, [], _∷_, _++_}
 use Prim.Native.Nat.{ℕ, suc, _+_, _-_, _*_}
@@ -29,11 +29,11 @@ use Rattle.decide.specs.Turn.{turned}
 abbrev pub paintedUnder : Picture → Block → Op → List Cell → List Cell
 paintedUnder p b op l = painted (p .width) (rectangleOf (b .x) (b .y) (p .width) (p .height)) op l
 
--- "all covered cells True"
+-- every cell that a block covers is True
 unfoldable pub allTrue : Picture → Block → List Cell → Bool
 allTrue p c l = everyOf isMarked (coveredCells p c l)
 
--- "Each child in turn": its outcome in the cells as the children before it left them
+-- one child after the other: each meets the cells as the ones before it left them
 unfoldable pub outcomes : Picture → List Cell → List Block → List ℕ → List Outcome
 outcomes p l [] vs = []
 outcomes p l (c ∷ cs) [] = []
@@ -46,7 +46,7 @@ unfoldable pub evaluations : List Outcome → ℕ
 evaluations [] = 0
 evaluations (o ∷ os) = costOf o + evaluations os
 
--- "the incomplete number"
+-- how many are incomplete
 unfoldable pub openCount : List Outcome → ℕ
 openCount [] = 0
 openCount (o ∷ os) = cond (isOpen o) 1 0 + openCount os
@@ -57,12 +57,12 @@ markEvents [] os = []
 markEvents (c ∷ cs) [] = []
 markEvents (c ∷ cs) (o ∷ os) = cond (isMarking o) (marks c ∷ markEvents cs os) (markEvents cs os)
 
--- "Found: it is queued with it .. Not found: all cells of the parent become given up"
+-- an incomplete child is queued with the direction that it finds; if it finds none, its parent's cells are given up
 abbrev pub turnEvent : Turned → Event Block
 turnEvent (T.To c) = queues c
 turnEvent T.Nowhere = givesUp
 
--- "Afterwards, each incomplete child", in order
+-- then the incomplete children, in order
 unfoldable pub turnEvents : (Block → Turned) → List Block → List Outcome → List (Event Block)
 turnEvents turn [] os = []
 turnEvents turn (c ∷ cs) [] = []

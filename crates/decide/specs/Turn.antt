@@ -1,5 +1,4 @@
--- Document 01: "each incomplete child looks round the directions from the present one if the incomplete number at most 1 (xy) or 2 (parameter),
--- else from the next, for the first subdivisible".
+-- Document 01, the step's last part: where each incomplete child looks for the direction in which it is cut next.
 use mathlib.Core.Bool.{Bool, true, false, cond, _&&_}
 use mathlib.Core.List.{List}
 use Prim.Native.Nat.{ℕ, zero, suc, _+_, _%_}
@@ -22,7 +21,7 @@ use Rattle.decide.specs.declared.turn.Turned.{Turned}
 use Rattle.decide.specs.declared.turn.Turned.the-variants as T
 use Rattle.decide.specs.Damage.{directionOf}
 
--- "at most 1 (xy) or 2 (parameter)"
+-- so many incomplete children are few, by the direction in which their parent was cut
 abbrev pub openLimit : DirectionAt → ℕ
 openLimit (A.Along D.XY) = 1
 openLimit (A.Along D.M) = 2
@@ -31,7 +30,7 @@ openLimit (A.Along D.Theta) = 2
 openLimit (A.Along D.T) = 2
 openLimit A.Beyond = 0
 
--- "from the present one .. else from the next"
+-- while they are few the search begins at the parent's direction, else at the one after it
 unfoldable pub startOf : Picture → Block → ℕ → ℕ
 startOf p b incomplete = cond (leb incomplete (openLimit (directionOf p b))) (b .dir) (b .dir + 1)
 
@@ -39,7 +38,7 @@ startOf p b incomplete = cond (leb incomplete (openLimit (directionOf p b))) (b 
 unfoldable pub splitsAt : Interval → Bool → Bool
 splitsAt x integer = legalInterval x integer && subdivisible (putInterval x) integer
 
--- can a block be cut in a direction? "It is subdivisible if k > -32"; a parameter by its midpoint
+-- can a block be cut in a direction? xy above the floor, a parameter by its midpoint
 abbrev pub subdivisibleAlong : Block → DirectionAt → Bool
 subdivisibleAlong c (A.Along D.XY) = aboveFloor ordinaryFloor (c .x .rank)
 subdivisibleAlong c (A.Along D.M) = splitsAt (c .m) true

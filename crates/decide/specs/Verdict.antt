@@ -1,4 +1,4 @@
--- Document 01, "Added: one verdict byte a child, most significant bit first", and what it makes of the child.
+-- Document 01, the verdict bytes, and what a verdict makes of its child.
 --
 --    bit      7 6     5     4          3            2             1         0
 --             result  area  simple     bottom left  bottom right  top left  top right
@@ -12,7 +12,7 @@ use Rattle.queue.specs.declared.Block.{Block}
 use Rattle.decide.specs.declared.verdict.Outcome.{Outcome}
 use Rattle.decide.specs.declared.verdict.Outcome.the-variants as O
 
--- "2 bits result (0 false, 1 undecided, 2 true), 1 bit sample area, 5 bits sample points"
+-- the parts of a byte: the result is 0 for false, 1 for undecided, 2 for true
 abbrev pub resultOf : ℕ → ℕ
 resultOf v = v / 64
 
@@ -22,38 +22,38 @@ areaOf v = eqb (v / 32 % 2) 1
 abbrev pub pointsOf : ℕ → ℕ
 pointsOf v = v % 32
 
--- "At level 0 and up the last six bits are 0. Below, point bits may be set only if the result is 1 and the area bit is set."
+-- legal bytes, by the level of the child: from level 0 up nothing but a result; below, points only in an undecided verdict with a sample area
 unfoldable pub legalVerdict : ℕ → ℕ → Bool
 legalVerdict rank v =
     ltb (resultOf v) 3 && cond (leb 48 rank) (eqb (v % 64) 0) (eqb (pointsOf v) 0 || (eqb (resultOf v) 1 && areaOf v))
 
--- "a verdict byte isn't legal, also for a child that would be skipped", the other way round
+-- every child's byte is legal, whether or not the child is going to be skipped
 unfoldable pub allLegal : List Block → List ℕ → Bool
 allLegal [] vs = true
 allLegal (c ∷ cs) [] = true
 allLegal (c ∷ cs) (v ∷ vs) = legalVerdict (c .x .rank) v && allLegal cs vs
 
--- "the place of the first set bit", in the order simple fraction, bottom left, bottom right, top left, top right
+-- the place, from 1, of the first point at which the search succeeds: the bits in the order of the table
 unfoldable pub firstPoint : ℕ → ℕ
 firstPoint v = leadingZeros 5 (pointsOf v) + 1
 
--- "Undecided is incomplete, except that a set point bit marks True and completes it; points cost the place of the first set bit, or 5,
--- and 0 without the area bit."
+-- undecided: a point that succeeds marks the child, after as many points as its place; none leaves it incomplete, after all five,
+-- or after none where there is no sample area
 unfoldable pub undecidedOutcome : ℕ → Outcome
 undecidedOutcome v = cond (areaOf v) (cond (eqb (pointsOf v) 0) (O.Open 5) (O.Point (firstPoint v))) (O.Open 0)
 
--- "False is complete. True marks its pixels and is complete, but below level 0 only with the area bit; without it the child is incomplete."
+-- by the result; true marks the child at any level where there is a sample area, and without one only from level 0 up
 unfoldable pub toldOutcome : ℕ → ℕ → Outcome
 toldOutcome rank v =
     cond (eqb (resultOf v) 0) O.False
     (cond (eqb (resultOf v) 1) (undecidedOutcome v)
     (cond (leb 48 rank || areaOf v) O.Area (O.Open 0)))
 
--- "all covered cells True: complete", whatever the verdict
+-- a child whose cells are all True is skipped, whatever its verdict
 abbrev pub outcomeOf : ℕ → ℕ → Bool → Outcome
 outcomeOf rank v all = cond all O.Skipped (toldOutcome rank v)
 
--- "all covered cells True: complete, 0 evaluations. Otherwise 1 evaluation", and what the points cost
+-- a skipped child costs nothing, any other one evaluation and its points
 abbrev pub costOf : Outcome → ℕ
 costOf O.Skipped = 0
 costOf O.False = 1

@@ -19,7 +19,8 @@ pub fn is_legal_picture(p: Picture) -> bool
     is_legal_side(p.width) & is_legal_side(p.height) & (p.set <= 63)
 }
 
-fn is_legal_side(side: u32) -> bool
+// Whether a side is one that a setup takes.
+pub fn is_legal_side(side: u32) -> bool
     ensures { λ r. ⌜ r ≡ legalSide side ⌝ }
 {
     (1 <= side) & (side <= 32768)

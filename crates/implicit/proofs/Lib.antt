@@ -14,4 +14,6 @@ pub mod StepLawsCode
 pub mod StepLaws
 pub mod StepLawsWent
 pub mod RunLaws
+pub mod RunLawsResumed
 pub mod ViewLaws
+pub mod Pairs

@@ -6,15 +6,31 @@ use lib.Dec.{leb}
 use lib.ListN.{length}
 use borrow.Author.Tests.{leb-true, le-leb, lt-leb}
 use Rattle.base.proofs.Test.{and-left, and-right, cases}
+use Rattle.refusal.specs.declared.Refusal.{Refusal}
 use Rattle.refusal.specs.declared.Refusal.the-variants as R
 use Rattle.queue.proofs.QueueAnswers.{denied, granted}
 use Rattle.decide.specs.declared.Picture.{Picture}
 use Rattle.decide.specs.Damage.{legalSide}
+use Rattle.implicit.specs.declared.state.Needed.{Needed}
+use Rattle.implicit.specs.declared.state.Needed.the-variants as N
 use Rattle.implicit.specs.declared.state.Ranges.{Ranges}
 use Rattle.implicit.specs.declared.begin.SetupEnd.{SetupEnd}
 use Rattle.implicit.specs.declared.begin.SetupEnd.the-variants as E
 use Rattle.implicit.specs.Record.{pixelCount}
-use Rattle.implicit.specs.Setup.{rangesLegal, firstBytes, setupRefusal}
+use Rattle.implicit.specs.Setup.{rangesLegal, firstBytes, setupRefusal, leastRing}
+
+bytesNeeded : Needed → ℕ
+bytesNeeded (N.Bytes n) = n
+bytesNeeded (N.Refused why) = 0
+
+hasNeed : Needed → Bool
+hasNeed (N.Bytes n) = true
+hasNeed (N.Refused why) = false
+
+needs-first : (t : Bool) (e : Needed) (n : ℕ) (why : Refusal) → cond t e (N.Refused why) ≡ N.Bytes n → (t ≡ true) × (e ≡ N.Bytes n)
+unfolding hasNeed
+needs-first true e n why h = (refl, h)
+needs-first false e n why h = absurd (false≢true (ap hasNeed h))
 
 module _ (p : Picture) (r : Ranges) (len count : ℕ) where
   module _ (a b : Bool) (ea : a ≡ legalSide (p .width)) (eb : b ≡ legalSide (p .height)) where
@@ -43,6 +59,33 @@ module _ (p : Picture) (r : Ranges) (len count : ℕ) where
           pub not-refused : total ≤ len → E.Begun ≡ setupRefusal p r len count
           unfolding setupRefusal
           not-refused h = rw (legal-sides, le-leb (p .width * p .height) count enough, sym el ∙ granted l legal, ← et, le-leb total len h)
+
+-- THE LEAST RING
+module _ (p : Picture) (r : Ranges) (a b : Bool) (ea : a ≡ legalSide (p .width)) (eb : b ≡ legalSide (p .height)) where
+  pub least-side : not (a && b) ≡ true → N.Refused R.Side ≡ leastRing p r
+  unfolding leastRing
+  least-side h = let e : legalSide (p .width) && legalSide (p .height) ≡ false = rw (← ea, ← eb) (denied (a && b) h) in rw e
+
+  module _ (sides : not (a && b) ≡ false) (l : Bool) (el : l ≡ rangesLegal (p .set) r) where
+    both-legal : legalSide (p .width) && legalSide (p .height) ≡ true
+    both-legal = rw (← ea, ← eb) (granted (a && b) sides)
+
+    pub least-parameter : not l ≡ true → N.Refused R.Parameter ≡ leastRing p r
+    unfolding leastRing
+    least-parameter h = rw (both-legal, sym el ∙ denied l h)
+
+    pub least-bytes : not l ≡ false → (total : ℕ) → total ≡ length (firstBytes p r) → N.Bytes total ≡ leastRing p r
+    unfolding leastRing
+    least-bytes legal total et = rw (both-legal, sym el ∙ granted l legal, et)
+
+-- a setup with enough cells begins exactly if its ring is no shorter
+pub least-suffices : (p : Picture) (r : Ranges) (len count n : ℕ) → leastRing p r ≡ N.Bytes n → pixelCount p ≤ count → n ≤ len → setupRefusal p r len count ≡ E.Begun
+unfolding leastRing setupRefusal bytesNeeded
+least-suffices p r len count n e cells room =
+    let (sides, e₁) = needs-first (legalSide (p .width) && legalSide (p .height)) _ n R.Side e in
+    let (ranges, e₂) = needs-first (rangesLegal (p .set) r) _ n R.Parameter e₁ in
+    let total : length (firstBytes p r) ≡ n = ap bytesNeeded e₂ in
+    rw (sides, le-leb (pixelCount p) count cells, ranges, total, le-leb n len room)
 
 -- AN ACCEPTED SETUP
 pub record Accepted (p : Picture) (r : Ranges) (len count : ℕ) : Type 0 where

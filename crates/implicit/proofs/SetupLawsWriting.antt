@@ -126,8 +126,11 @@ module _ (set : ℕ) (k : Behind) (b : Block) (can : codable set (k .back) b ≡
 
 -- THE RANGES
 
-pub used-legal-as : (set : ℕ) (d : Direction) (x : Interval) (u i l : Bool) → u ≡ inUse set d → i ≡ isInteger d → l ≡ legalInterval x i → (not u || l) ≡ usedLegal set d x
-used-legal-as set d x u i l e f g = rw (e, g, f)
+pub unused-legal : (set : ℕ) (d : Direction) (x : Interval) (u : Bool) → u ≡ inUse set d → not u ≡ true → true ≡ usedLegal set d x
+unused-legal set d x u e h = rw (← e, h)
+
+pub used-legal : (set : ℕ) (d : Direction) (x : Interval) (u i l : Bool) → u ≡ inUse set d → not u ≡ false → i ≡ isInteger d → l ≡ legalInterval x i → l ≡ usedLegal set d x
+used-legal set d x u i l e h f g = rw (← e, h, g, f)
 
 pub ranges-legal-as : (set : ℕ) (r : Ranges) (m n theta t : Bool) → m ≡ usedLegal set D.M (r .m) → n ≡ usedLegal set D.N (r .n) → theta ≡ usedLegal set D.Theta (r .theta) → t ≡ usedLegal set D.T (r .t)
     → (leb set 63 && m && n && theta && t) ≡ rangesLegal set r

@@ -1,15 +1,15 @@
--- What a finished step has been through, and what follows for a run: its bytes and evaluations are few, and the picture and the buffers' lengths stay.
+-- What a finished step has been through, that nothing else is asked of it, and what follows for a run: its bytes and evaluations are few, and the picture and the buffers' lengths stay.
 -- Assumes nothing.
 use mathlib.Core.Path.{_≡_, refl, sym, ap, _∙_}
-use mathlib.Core.Bool.{Bool, true, false, cond}
+use mathlib.Core.Bool.{Bool, true, false}
 use mathlib.Core.List.{List, [], _∷_}
-use Prim.Native.Nat.{ℕ, suc, _+_, _-_, _*_, _^_, _≤_, _<_}
+use Prim.Native.Nat.{ℕ, suc, _+_, _^_, _≤_}
 use native.Mathlib.Omega.{arith}
 use lib.Dec.{leb, ltb, eqb}
 use lib.ListN as L
 use lib.ListN.{length, take}
-use borrow.Author.Tests.{leb-true, eqb-true}
-use Rattle.base.proofs.Test.{cases}
+use borrow.Author.Tests.{leb-true, eqb-true, le-leb}
+use Rattle.base.proofs.Test.{cond-yes}
 use Rattle.base.specs.Event.{Event, marks, queues, givesUp}
 use Rattle.refusal.specs.declared.Refusal.{Refusal}
 use Rattle.refusal.specs.declared.Refusal.the-variants as R
@@ -24,12 +24,11 @@ use Rattle.queue.specs.declared.Taken.the-variants as T
 use Rattle.queue.specs.Ring.{wrapped}
 use Rattle.queue.proofs.RingLaws.{length-stored}
 use Rattle.decide.specs.declared.Picture.{Picture}
-use Rattle.decide.specs.declared.verdict.Outcome.{Outcome}
 use Rattle.decide.specs.Children.{childrenOf}
-use Rattle.decide.specs.Verdict.{allLegal, outcomeOf, isMarking}
-use Rattle.decide.specs.Plan.{outcomes, evaluations, cellsAfter, paintedUnder, allTrue}
+use Rattle.decide.specs.Verdict.{allLegal}
+use Rattle.decide.specs.Plan.{evaluations, cellsAfter, paintedUnder}
 use Rattle.decide.proofs.ListingLaws.{children-few}
-use Rattle.decide.proofs.VerdictLaws.{cost-of-child}
+use Rattle.decide.proofs.EventLaws.{evaluations-few}
 use Rattle.implicit.specs.declared.state.State.{State}
 use Rattle.implicit.specs.Record.{pixelCount, soundRecord}
 use Rattle.implicit.specs.Listing.{frontOf}
@@ -103,15 +102,27 @@ went tape w vs left e n h =
     go x y z T.Damaged f g = let u : _≡_ {A = ℕ} 0 1 = cc in absurd (omega arith)
     go x y z T.Outside f g = let u : _≡_ {A = ℕ} 0 1 = cc in absurd (omega arith)
 
--- FEW BYTES, FEW EVALUATIONS
+-- and a step that passes all of that is finished
+pub goes : (tape : Bool) (w : World) (vs : List ℕ) (b : Block) (last : Last) (head used : ℕ) → let cs = childrenOf (w .state .picture) b in let own = take (length cs) vs in
+    soundRecord (length (w .ring)) (w .state) ≡ true → pixelCount (w .state .picture) ≤ length (w .cells) → ltb (w .state .taken) (w .state .queued) ≡ true
+    → frontOf (w .state) (w .ring) ≡ T.Front b last head used → blockFine (w .state .picture) (w .cells) b ≡ true → enoughVerdicts tape (length cs) (length vs) ≡ true
+    → allLegal cs own ≡ true → w .state .queued + length (newBlocks w b own) ≤ 2 ^ 32 → used + length (newBytes w b own) ≤ length (w .ring)
+    → stepWith tape w vs ≡ finished (worldLeft w b last head used own) (evaluations (outcomesOf w b own)) (length cs)
+unfolding stepWith opened judged unless
+goes tape w vs b last head used x y z f d m l q r =
+    let cs = childrenOf (w .state .picture) b in
+    let own = take (length cs) vs in
+    cond-yes (soundRecord (length (w .ring)) (w .state)) _ _ x
+    ∙ cond-yes (leb (pixelCount (w .state .picture)) (length (w .cells))) _ _ (le-leb (pixelCount (w .state .picture)) (length (w .cells)) y)
+    ∙ cond-yes (ltb (w .state .taken) (w .state .queued)) _ _ z
+    ∙ ap (opened tape w vs) f
+    ∙ cond-yes (blockFine (w .state .picture) (w .cells) b) _ _ d
+    ∙ cond-yes (enoughVerdicts tape (length cs) (length vs)) _ _ m
+    ∙ cond-yes (allLegal cs own) _ _ l
+    ∙ cond-yes (leb (w .state .queued + length (newBlocks w b own)) (2 ^ 32)) _ _ (le-leb (w .state .queued + length (newBlocks w b own)) (2 ^ 32) q)
+    ∙ cond-yes (leb (used + length (newBytes w b own)) (length (w .ring))) _ _ (le-leb (used + length (newBytes w b own)) (length (w .ring)) r)
 
-costs-few : (p : Picture) (l : List Cell) (cs : List Block) (vs : List ℕ) → evaluations (outcomes p l cs vs) ≤ 6 * length cs
-unfolding outcomes evaluations
-costs-few p l [] vs = omega arith
-costs-few p l (c ∷ cs) [] = omega arith
-costs-few p l (c ∷ cs) (v ∷ vs) =
-    let o = outcomeOf (c .x .rank) v (allTrue p c l) in
-    omega (arith, cost-of-child (c .x .rank) v (allTrue p c l), costs-few p (cond (isMarking o) (paintedUnder p c O.Mark l) l) cs vs)
+-- FEW BYTES, FEW EVALUATIONS
 
 enough-fits : (tape : Bool) (children verdicts : ℕ) → enoughVerdicts tape children verdicts ≡ true → children ≤ verdicts
 enough-fits true children verdicts e = leb-true children verdicts e
@@ -124,7 +135,7 @@ step-few tape w vs left e n h =
     let c = children-few (w .state .picture) (g .block) in (
       omega (arith, g .bytes-are),
       omega (arith, g .bytes-are, enough-fits tape (length (childrenOf (w .state .picture) (g .block))) (length vs) (g .enough)),
-      omega (arith, g .cost, costs-few (w .state .picture) (meanings (w .cells)) (childrenOf (w .state .picture) (g .block)) (g .own)),
+      omega (arith, g .cost, evaluations-few (w .state .picture) (meanings (w .cells)) (childrenOf (w .state .picture) (g .block)) (g .own)),
     )
 
 -- WHAT STAYS

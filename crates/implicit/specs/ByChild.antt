@@ -46,7 +46,7 @@ openedAs (T.Front b last head used) = P.At (record { block = b; last = last; hea
 openedAs T.Damaged = P.Refused R.Damaged
 openedAs T.Outside = P.Refused R.Damaged
 
--- "8 for the record, 2, 13", and the bytes of the block; there are so many cells
+-- refusals 8 of the record, 2 and 13, then the bytes of the block; there are so many cells
 unfoldable pub opening : State → List ℕ → ℕ → Opened
 opening s ring cells =
     cond (soundRecord (length ring) s)
@@ -62,7 +62,7 @@ pub record Begun (s : State) (ring cells : List ℕ) (f : Front) : Type 0 where
   pub not-empty : ltb (s .taken) (s .queued) ≡ true
   pub front-read : frontOf s ring ≡ T.Front (f .block) (f .last) (f .head) (f .used)
 
--- "8 for the block, 4"
+-- refusals 8 of the block and 4
 unfoldable pub blockCheck : Picture → Block → List ℕ → ℕ → ℕ → Bool → Check
 blockCheck p b cells children verdicts tape =
     cond (blockFine p cells b)
@@ -87,7 +87,7 @@ sizedAll set z (e ∷ es) = sizedAll set (sizedBy set z (e .block) (e .fate)) es
 abbrev pub sizeOf : ℕ → Last → List Planned → ℕ
 sizeOf set back es = sizedAll set (record { total = 0; last = back }) es .total
 
--- "5, 7, 6"
+-- refusals 5, 7 and 6
 unfoldable pub planCheck : State → ℕ → ℕ → Plan → Check
 planCheck s len used p =
     cond (p .legal)

@@ -68,7 +68,7 @@ counted p e = record {
 unfoldable pub wholeRun : ℕ → Progress → List ℕ → List ℕ → List ℕ → RunEnd
 wholeRun budget p ring cells tape = counted p (restOf budget p ring cells tape)
 
--- what was counted stays small: "bounded by the lent budget"
+-- what was counted stays small, by the budget
 pub record Bounded (budget : ℕ) (tape : List ℕ) (p : Progress) : Type 0 where
   pub steps : p .steps ≤ budget
   pub evaluations : p .evaluations ≤ 24 * p .steps

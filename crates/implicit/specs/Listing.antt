@@ -1,5 +1,5 @@
--- The children of the front block, listed for the evaluator before it answers (added). Its refusals are a step's "8 for the record", 13 and "8 for the block", the last
--- without its clause on cells, since no cells are lent.
+-- The children of the front block, listed for the evaluator before it answers (added). It is refused as a step is, by 8 for the record, by 13, and by 8 for the block,
+-- the last without a look at cells, since none are lent.
 use mathlib.Core.Bool.{Bool, cond}
 use mathlib.Core.List.{List, []}
 use Prim.Native.Nat.{ℕ}

@@ -1,4 +1,4 @@
--- Document 01, "Numbers of refusal": "Record damage", clause by clause, the other way round; and what a record says of its pixels.
+-- Document 01, the list of what damages a record, each clause as the test that an undamaged one passes; and what a record says of its pixels.
 use mathlib.Core.Bool.{Bool, true, false, _&&_, Bool·beq}
 use Prim.Native.Nat.{ℕ, _*_, _^_}
 use lib.Dec.{leb, ltb, eqb}
@@ -20,21 +20,21 @@ pixelCount p = p .width * p .height
 abbrev pub pixelCells : Picture → List ℕ → List Cell
 pixelCells p l = heldCells (p .width) (wholePicture (p .width) (p .height)) (meanings l)
 
--- not "a remembered index of 2^47 or more, a remembered interval illegal": all are looked at, also those of parameters that are not used
+-- what is remembered of a block: both indices in their range, all four intervals legal, also those of parameters that are not used
 unfoldable pub soundLast : Last → Bool
 soundLast l =
     ltb (l .x) (2 ^ 47) && ltb (l .y) (2 ^ 47)
     && legalInterval (l .m) true && legalInterval (l .n) true && legalInterval (l .theta) true && legalInterval (l .t) false
 
--- not "taken > queued, queued over 2^32"
+-- no more taken than queued, no more queued than there are numbers
 abbrev pub soundCounts : State → Bool
 soundCounts s = leb (s .taken) (s .queued) && leb (s .queued) (2 ^ 32)
 
--- not "ring length or positions wrong", for a lent ring of len bytes
+-- the length is that of the lent ring, of len bytes; the head lies in it, and the bytes used fit
 abbrev pub soundRing : ℕ → State → Bool
 soundRing len s = eqb (s .len) len && ltb (s .head) len && leb (s .used) len
 
--- not "bytes used 0 without an empty count or the reverse"
+-- no byte is used exactly if no block is left
 abbrev pub soundUse : State → Bool
 soundUse s = Bool·beq (eqb (s .used) 0) (eqb (s .taken) (s .queued))
 

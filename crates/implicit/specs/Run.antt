@@ -1,6 +1,4 @@
--- Document 01: "A run is itself refused by 8 for the record, then 2. Otherwise it takes verdicts from a tape until, tested in this order, the queue is empty
--- (done, or limit if a cell is given up), a budget of steps (0 to 2^32 - 1) is spent (more), or a step refuses (stop). It reports steps, evaluations and tape
--- bytes, each the sum of the steps'."
+-- Document 01, the paragraph on a run: what it is refused by, its four endings in the order in which they are looked for, and its three sums.
 use mathlib.Core.Path.{_≡_}
 use mathlib.Core.Bool.{Bool, cond}
 use mathlib.Core.List.{List}
@@ -42,11 +40,11 @@ afterStep evals bytes r = record {
   ending = r .ending;
 }
 
--- "done, or limit if a cell is given up"
+-- the queue is empty: limit where a pixel is given up, else done
 abbrev pub emptyEnding : Picture → List ℕ → Ending
 emptyEnding p cells = cond (someOf isGivenUp (pixelCells p cells)) E.Limit E.Done
 
--- how a run goes on from a step's end: "a step refuses (stop)", or the rest follows on the world and the tape that it leaves
+-- how a run goes on from a step's end: it stops where the step was refused, else the rest follows on the world and the tape that the step leaves
 abbrev pub goneOn : World → StepEnd → (World → ℕ → RunEnd) → RunEnd
 goneOn w (refused why) rest = endedAs w (E.Stop why)
 goneOn w (finished next evals bytes) rest = afterStep evals bytes (rest next bytes)

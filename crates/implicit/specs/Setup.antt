@@ -1,4 +1,4 @@
--- Document 01, "Setup", with its refusals "1, 2, 3, 6".
+-- Document 01, the setup, with its refusals 1, 2, 3 and 6 in this order.
 use mathlib.Core.Bool.{Bool, true, false, cond, not, _&&_, _||_}
 use mathlib.Core.List.{List, [], _∷_, _++_, map}
 use Prim.Native.Nat.{ℕ, zero, suc, _+_, _-_, _*_, _^_, max}
@@ -21,6 +21,8 @@ use Rattle.decide.specs.declared.Picture.{Picture}
 use Rattle.decide.specs.Damage.{legalSide, legalSet}
 use Rattle.implicit.specs.declared.begin.SetupEnd.{SetupEnd}
 use Rattle.implicit.specs.declared.begin.SetupEnd.the-variants as E
+use Rattle.implicit.specs.declared.state.Needed.{Needed}
+use Rattle.implicit.specs.declared.state.Needed.the-variants as N
 use Rattle.implicit.specs.declared.state.State.{State}
 use Rattle.implicit.specs.declared.state.Ranges.{Ranges}
 use Rattle.implicit.specs.declared.state.Started.{Started}
@@ -29,7 +31,7 @@ use Rattle.queue.specs.Ring.{stored}
 use Rattle.queue.specs.Queue as Queue
 use Rattle.implicit.specs.Record.{pixelCount}
 
--- "level k is the least with 2^k >= the larger side": the least from k on, of n tries
+-- the start level: the least at which one block covers both sides. Here the least from k on, of n tries
 unfoldable pub leastFrom : ℕ → ℕ → ℕ → ℕ
 leastFrom zero k side = k
 leastFrom (suc n) k side = cond (leb side (2 ^ k)) k (leastFrom n (k + 1) side)
@@ -37,7 +39,7 @@ leastFrom (suc n) k side = cond (leb side (2 ^ k)) k (leastFrom n (k + 1) side)
 unfoldable pub startLevel : Picture → ℕ
 startLevel p = leastFrom 15 0 (max (p .width) (p .height))
 
--- "one block (0,0)": a used range with its zeros put, and the whole line for one that is not used
+-- the block at the origin: a used range with its zeros put, and the whole line for one that is not used
 unfoldable pub rootBlock : Picture → Ranges → Block
 rootBlock p r = record {
   x = record { index = 0; rank = 48 + startLevel p };
@@ -54,7 +56,7 @@ unfoldable pub eachCutFirst : Direction → List Block → List Block
 eachCutFirst d [] = []
 eachCutFirst d (b ∷ l) = map (withParameter b d) (firstCut (parameterOf b d) (isInteger d)) ++ eachCutFirst d l
 
--- "cut first in m, n, n_theta, t where used"
+-- all blocks cut first along each of these parameters that is used
 unfoldable pub cutFirstIn : ℕ → List Direction → List Block → List Block
 cutFirstIn set [] l = l
 cutFirstIn set (d ∷ ds) l = cutFirstIn set ds (cond (inUse set d) (eachCutFirst d l) l)
@@ -63,7 +65,7 @@ cutFirstIn set (d ∷ ds) l = cutFirstIn set ds (cond (inUse set d) (eachCutFirs
 unfoldable pub firstBlocks : Picture → Ranges → List Block
 firstBlocks p r = cutFirstIn (p .set) parameters (rootBlock p r ∷ [])
 
--- 3: "variable set over 63 .. or a used parameter .. isn't legal", the other way round
+-- what row 3 does not refuse: a set of known variables, and an interval for each parameter in it
 abbrev pub usedLegal : ℕ → Direction → Interval → Bool
 usedLegal set d r = not (inUse set d) || legalInterval r (isInteger d)
 
@@ -75,7 +77,7 @@ rangesLegal set r =
 unfoldable pub firstBytes : Picture → Ranges → List ℕ
 firstBytes p r = Queue.queueCodes (p .set) startingLast (firstBlocks p r)
 
--- "1, 2, 3, 6": the first refusal that applies, if any, to a ring of len bytes and count cells
+-- the first refusal that applies, if any, to a ring of len bytes and count cells
 unfoldable pub setupRefusal : Picture → Ranges → ℕ → ℕ → SetupEnd
 setupRefusal p r len count =
     cond (legalSide (p .width) && legalSide (p .height))
@@ -85,6 +87,13 @@ setupRefusal p r len count =
     (E.Rejected R.Parameter))
     (E.Rejected R.Cells))
     (E.Rejected R.Side)
+
+-- the least ring with which a setup begins, asked before there are a ring and cells: of its refusals 1 and 3 are left
+unfoldable pub leastRing : Picture → Ranges → Needed
+leastRing p r =
+    cond (legalSide (p .width) && legalSide (p .height))
+    (cond (rangesLegal (p .set) r) (N.Bytes (length (firstBytes p r))) (N.Refused R.Parameter))
+    (N.Refused R.Side)
 
 -- the record that an accepted setup leaves
 unfoldable pub startRecord : Picture → Ranges → ℕ → State
@@ -99,7 +108,7 @@ startRecord p r len = record {
   back = Queue.memory startingLast (firstBlocks p r);
 }
 
--- the ring and the cells that it leaves: "filled from byte 0", "all cells name the last block"
+-- the ring that it leaves, with the codes from byte 0 on, and the cells, every pixel's naming the last block
 unfoldable pub startRing : Picture → Ranges → List ℕ → List ℕ
 startRing p r ring = stored ring 0 (firstBytes p r)
 

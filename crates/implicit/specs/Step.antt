@@ -1,4 +1,4 @@
--- Document 01, "A step takes the front block ..", with its refusals in order: "8 for the record, 2, 13, 8 for the block, 4, 5, 7, 6".
+-- Document 01, the step, with its refusals in their order: 8 for the record, 2, 13, 8 for the block, 4, 5, 7, 6.
 -- A step is a function of the record, the ring, the cells and the verdicts: this page says what it answers and leaves.
 use mathlib.Core.Path.{_≡_}
 use mathlib.Core.Bool.{Bool, true, false, cond, not, _&&_}
@@ -46,7 +46,7 @@ pub data StepEnd : Type 0 where
 unfoldable pub unless : Refusal → Bool → StepEnd → StepEnd
 unless why test rest = cond test rest (refused why)
 
--- "verdict bytes differ in number from the children; on a tape, fewer", the other way round
+-- what row 4 does not refuse: as many verdicts as children; on a tape, at least as many
 abbrev pub enoughVerdicts : Bool → ℕ → ℕ → Bool
 enoughVerdicts tape children verdicts = cond tape (leb children verdicts) (eqb verdicts children)
 
@@ -81,11 +81,11 @@ worldLeft w b last head used vs = record {
   cells = Cells.codes (cellsAfter (w .state .picture) b (w .state .taken) (w .state .queued) (eventsOf w b vs) (Cells.meanings (w .cells)));
 }
 
--- "8 for the block", the other way round: neither it nor a cell that it covers is damaged
+-- neither the block nor a cell that it covers is damaged
 abbrev pub blockFine : Picture → List ℕ → Block → Bool
 blockFine p cells b = undamaged p b && not (cellDamaged p b (Cells.meanings cells))
 
--- "5, 7, 6", with as many verdicts as children
+-- refusals 5, 7 and 6, with as many verdicts as children
 unfoldable pub judged : World → Block → Last → ℕ → ℕ → List ℕ → StepEnd
 judged w b last head used own =
     unless R.Verdict (allLegal (childrenOf (w .state .picture) b) own)
@@ -93,7 +93,7 @@ judged w b last head used own =
     (unless R.Room (leb (used + length (newBytes w b own)) (length (w .ring)))
     (finished (worldLeft w b last head used own) (evaluations (outcomesOf w b own)) (length (childrenOf (w .state .picture) b)))))
 
--- "8 for the block, 4", and then those
+-- refusals 8 of the block and 4, and then those
 unfoldable pub opened : Bool → World → List ℕ → Taken → StepEnd
 opened tape w vs T.Damaged = refused R.Damaged
 opened tape w vs T.Outside = refused R.Damaged
@@ -103,7 +103,7 @@ opened tape w vs (T.Front b last head used) =
     (unless R.Verdicts (enoughVerdicts tape children (length vs))
     (judged w b last head used (take children vs)))
 
--- THE STEP: "8 for the record, 2, 13", and then the block's; on a tape, or a single one
+-- THE STEP: refusals 8 of the record, 2 and 13, and then the block's; on a tape, or a single one
 unfoldable pub stepWith : Bool → World → List ℕ → StepEnd
 stepWith tape w vs =
     unless R.Damaged (soundRecord (length (w .ring)) (w .state))
@@ -117,7 +117,7 @@ stepOf = stepWith false
 abbrev pub tapeStepOf : World → List ℕ → StepEnd
 tapeStepOf = stepWith true
 
--- the answer of a step on a record, and the world afterwards: "a refusal returns its number and the state given; nothing lent changes"
+-- the answer of a step on a record, and the world afterwards: by a refusal the number, the record as given, and the world as it was
 abbrev pub stepAnswer : State → StepEnd → Stepped
 stepAnswer s (refused why) = S.Refused why s
 stepAnswer s (finished left evals bytes) = S.Finished (left .state) evals bytes

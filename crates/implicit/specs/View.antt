@@ -1,4 +1,4 @@
--- Document 01, "Numbers of refusal" and "Program and values": the picture and the counts, with their refusals "8, 2, 12 (picture only), 8 for a cell".
+-- Document 01, "Numbers of refusal" and "Program and values": the picture and the counts. Their refusals, in order, are 8 for the record, 2, 12 for the picture alone, 8 for a cell.
 -- Neither has a ring: the record's own ring length is taken as the lent one's.
 use mathlib.Core.Bool.{Bool, cond, not}
 use mathlib.Core.List.{List, map, _++_}
@@ -17,23 +17,23 @@ use Rattle.implicit.specs.declared.state.Drawn.{Drawn}
 use Rattle.implicit.specs.declared.state.Drawn.the-variants as D
 use Rattle.implicit.specs.Record.{pixelCount, pixelCells, soundRecord}
 
--- "8 for a cell", the other way round
+-- no pixel's cell is damaged
 abbrev pub cellsFine : State → List ℕ → Bool
 cellsFine s cells = not (someOf isDamaged (pixelCells (s .picture) cells))
 
--- "Picture bytes: False 0, Uncertain 1, True 2", rows from the top
+-- a byte for each pixel by its reading, rows from the top
 unfoldable pub pictureBytes : State → List ℕ → List ℕ
 pictureBytes s cells = map (λ c. byteOf (reading (s .taken) c)) (pixelCells (s .picture) cells)
 
--- the picture buffer afterwards: "bytes beyond stay"
+-- the picture buffer afterwards: what lies beyond the pixels is as it was
 unfoldable pub pictureLeft : State → List ℕ → List ℕ → List ℕ
 pictureLeft s cells out = pictureBytes s cells ++ drop (pixelCount (s .picture)) out
 
--- "settled pixels in thousandths rounded to nearest, half up"
+-- the share: settled pixels in thousandths of all, to the nearest, half up
 unfoldable pub shareOf : ℕ → ℕ → ℕ
 shareOf settled pixels = (2000 * settled + pixels) / (2 * pixels)
 
--- what the picture answers, for a buffer of room bytes: the first refusal of "8, 2, 12, 8 for a cell" that applies, if any
+-- what the picture answers, for a buffer of room bytes: the first refusal that applies, if any
 unfoldable pub pictureAnswer : State → List ℕ → ℕ → Drawn
 pictureAnswer s cells room =
     cond (soundRecord (s .len) s)
@@ -44,12 +44,12 @@ pictureAnswer s cells room =
     (D.Refused R.Cells))
     (D.Refused R.Damaged)
 
--- what the buffer then holds: "nothing lent changes" by a refusal
+-- what the buffer then holds: by a refusal what it held
 abbrev pub ifDrawn : Drawn → List ℕ → List ℕ → List ℕ
 ifDrawn D.Done after before = after
 ifDrawn (D.Refused why) after before = before
 
--- the counts: "pixels by reading, given-up cells (also counted as uncertain), queued blocks, settled pixels in thousandths", from a tally
+-- the counts, from a tally of readings: given-up cells are among the uncertain ones
 unfoldable pub countsFrom : State → Tally → Counts
 countsFrom s t = record {
   trues = t .trues;
@@ -64,7 +64,7 @@ countsFrom s t = record {
 abbrev pub countsOf : State → List ℕ → Counts
 countsOf s cells = countsFrom s (tallied (s .taken) (pixelCells (s .picture) cells))
 
--- what the counts answer: the first refusal of "8, 2, 8 for a cell" that applies, or the counts of the pixels
+-- what the counts answer: the first refusal that applies, or the counts of the pixels
 unfoldable pub countsAnswer : State → List ℕ → Counted
 countsAnswer s cells =
     cond (soundRecord (s .len) s)

@@ -1,16 +1,15 @@
-// The step: take, decide, commit. From the Rust's `refine_impl`. All refusals are known before the first write; `commit` is the only writer.
+// The step: take, decide, commit. From the Rust's `refine_impl`. All refusals are known before `commit`, the only writer, is called.
 ghost use mathlib.Core.Path.{_≡_};
 ghost use mathlib.Core.Bool.{true};
 ghost use Prim.Native.Nat.{_+_, _^_, _≤_};
 ghost use lib.Dec.{leb};
-ghost use lib.ListN.{length, take};
+ghost use lib.ListN.{length};
 ghost use Rattle.decide.specs.Children.{childrenOf};
-ghost use Rattle.decide.specs.Plan.{planOf};
-ghost use Rattle.image.specs.Cell.{meanings};
 ghost use Rattle.implicit.specs.Record.{pixelCount};
-ghost use Rattle.implicit.specs.Step.{worldOf, blockFine, enoughVerdicts, judged, opened, stepWith, stepOf, tapeStepOf, EndsAs};
-ghost use Rattle.implicit.specs.ByChild.{opening, Begun, blockCheck, withCode, sizedBy, sizedAll, sizeOf, planCheck, paintedBlock, markedBy, markedAll, takenState, numbered, withQueued, carriedBy, carriedAll, committed};
+ghost use Rattle.implicit.specs.Step.{worldOf, blockFine, enoughVerdicts, judged, stepWith, stepOf, tapeStepOf, EndsAs};
+ghost use Rattle.implicit.specs.ByChild.{opening, Begun, blockCheck, withCode, sizedBy, sizeOf, planCheck};
 ghost use Rattle.queue.specs.Queue.{measured};
+use crate::commit::commit;
 use crate::record::is_sound;
 use crate::record::pixel_count;
 use crate::record::put_last;
@@ -24,9 +23,7 @@ use decide::plan::Fate;
 use decide::plan::Plan;
 use decide::plan::Planned;
 use decide::plan::plan_step;
-use image::Op;
 use image::Seen;
-use queue::Appended;
 use queue::Block;
 use queue::Last;
 use queue::Measured;
@@ -34,11 +31,11 @@ use queue::Taken;
 use refusal::Refusal;
 
 // The front block, what is remembered of it, and the head and the use once it is taken.
-struct Front {
-    block: Block,
-    last: Last,
-    head: usize,
-    used: usize,
+pub(crate) struct Front {
+    pub block: Block,
+    pub last: Last,
+    pub head: usize,
+    pub used: usize,
 }
 
 // The front block, or why there is none to go on with.
@@ -228,13 +225,12 @@ fn size_of(set: u8, back: Last, plan: Plan) -> usize
     requires { ⌜ length (plan .at) ≡ 4 ⌝ }
     ensures { λ r. ⌜ r ≡ sizeOf set back (plan .at) ⌝ }
 {
-    let at = plan.at;
     let mut z = Size {
         total: 0,
         last: back,
     };
     for i in 0..4 {
-        let e = at[i];
+        let e = plan.at[i];
         z = add_child(set, z, e);
     }
     z.total
@@ -264,142 +260,4 @@ fn add_code(set: u8, z: Size, b: Block) -> Size
         },
         Measured::NotCodable => z,
     }
-}
-
-// COMMIT
-
-// Carries the plan out: the cells' marks in order, then the children that are queued or find no direction, in order.
-fn commit(s: State, ring: &mut [u8], cells: &mut [u64], front: Front, plan: Plan) -> State
-    requires { ⌜ (s .queued ≤ 2 ^ 32) × (s .taken ≤ 2 ^ 32) × (length (plan .at) ≡ 4) ⌝ }
-    ensures { λ r. ⌜ worldOf r (now (ring .exit)) (now (cells .exit)) ≡ committed (worldOf s (now (ring .entry)) (now (cells .entry))) front (plan .at) ⌝ }
-{
-    mark_children(s.picture, cells, plan);
-    let next = with_front_taken(s, front);
-    carry_children(next, ring, cells, s.taken, front.block, plan)
-}
-
-fn mark_children(p: Picture, cells: &mut [u64], plan: Plan)
-    requires { ⌜ length (plan .at) ≡ 4 ⌝ }
-    ensures { λ _. ⌜ now (cells .exit) ≡ markedAll p (now (cells .entry)) (plan .at) ⌝ }
-{
-    let at = plan.at;
-    for i in 0..4 {
-        let e = at[i];
-        mark_child(p, cells, e);
-    }
-}
-
-fn mark_child(p: Picture, cells: &mut [u64], e: Planned) -> bool
-    ensures { λ _. ⌜ now (cells .exit) ≡ markedBy p (now (cells .entry)) (e .block) (e .fate) ⌝ }
-{
-    let fate = e.fate;
-    match fate {
-        Fate::Nothing => false,
-        Fate::Mark => paint_block(p, cells, e.block, Op::Mark),
-        Fate::Queue => false,
-        Fate::GiveUp => false,
-    }
-}
-
-// Changes every cell that the block covers.
-fn paint_block(p: Picture, cells: &mut [u64], b: Block, op: Op) -> bool
-    ensures { λ _. ⌜ now (cells .exit) ≡ paintedBlock p b op (now (cells .entry)) ⌝ }
-{
-    let r = image::rectangle(b.x, b.y, p.width, p.height);
-    image::paint(cells, p.width, p.height, r, op)
-}
-
-// The record once the front block is taken, with all that it remembers put.
-fn with_front_taken(s: State, front: Front) -> State
-    requires { ⌜ s .taken ≤ 2 ^ 32 ⌝ }
-    ensures { λ r. ⌜ r ≡ takenState s front ⌝ }
-{
-    let picture = s.picture;
-    let last = front.last;
-    State {
-        picture,
-        taken: s.taken + 1,
-        queued: s.queued,
-        len: s.len,
-        head: front.head,
-        used: front.used,
-        front: last,
-        back: put_last(s.back),
-    }
-}
-
-// Cells that name block `from` or a later one name what is queued over them.
-fn carry_children(
-    s: State,
-    ring: &mut [u8],
-    cells: &mut [u64],
-    from: u64,
-    parent: Block,
-    plan: Plan,
-) -> State
-    requires { ⌜ (s .queued ≤ 2 ^ 32) × (length (plan .at) ≡ 4) ⌝ }
-    ensures { λ r. ⌜ worldOf r (now (ring .exit)) (now (cells .exit)) ≡ carriedAll from parent (worldOf s (now (ring .entry)) (now (cells .entry))) (plan .at) ⌝ }
-{
-    let at = plan.at;
-    let mut next = s;
-    for i in 0..4 {
-        let e = at[i];
-        next = carry_child(next, ring, cells, from, parent, e);
-    }
-    next
-}
-
-fn carry_child(
-    s: State,
-    ring: &mut [u8],
-    cells: &mut [u64],
-    from: u64,
-    parent: Block,
-    e: Planned,
-) -> State
-    requires { ⌜ s .queued ≤ 2 ^ 33 ⌝ }
-    ensures { λ r. ⌜ (worldOf r (now (ring .exit)) (now (cells .exit)) ≡ carriedBy from parent (worldOf s (now (ring .entry)) (now (cells .entry))) (e .block) (e .fate)) × (r .queued ≤ s .queued + 1) ⌝ }
-{
-    let fate = e.fate;
-    match fate {
-        Fate::Nothing => s,
-        Fate::Mark => s,
-        Fate::Queue => queue_child(s, ring, cells, from, e.block),
-        Fate::GiveUp => give_up(s, cells, parent),
-    }
-}
-
-// All cells of the parent, True ones too.
-fn give_up(s: State, cells: &mut [u64], parent: Block) -> State
-    ensures { λ r. ⌜ (r ≡ s) × (now (cells .exit) ≡ paintedBlock (s .picture) parent Op.GiveUp (now (cells .entry))) ⌝ }
-{
-    paint_block(s.picture, cells, parent, Op::GiveUp);
-    s
-}
-
-fn queue_child(s: State, ring: &mut [u8], cells: &mut [u64], from: u64, b: Block) -> State
-    requires { ⌜ s .queued ≤ 2 ^ 33 ⌝ }
-    ensures { λ r. ⌜ (worldOf r (now (ring .exit)) (now (cells .exit)) ≡ withQueued from b (worldOf s (now (ring .entry)) (now (cells .entry)))) × (r .queued ≤ s .queued + 1) ⌝ }
-{
-    let p = s.picture;
-    match queue::append(ring, s.head, s.used, p.set, s.back, b) {
-        Appended::Done { last, used } => name_child(s, cells, from, b, last, used),
-        Appended::NoRoom => s,
-        Appended::NotCodable => s,
-        Appended::Outside => s,
-    }
-}
-
-// The child has the next number.
-fn name_child(s: State, cells: &mut [u64], from: u64, b: Block, last: Last, used: usize) -> State
-    requires { ⌜ s .queued ≤ 2 ^ 33 ⌝ }
-    ensures { λ r. ⌜ (r ≡ numbered s last used) × (now (cells .exit) ≡ paintedBlock (s .picture) b (Op.Name from (s .queued)) (now (cells .entry))) ⌝ }
-{
-    let name = Op::Name { from, to: s.queued };
-    paint_block(s.picture, cells, b, name);
-    let mut r = s;
-    r.queued = s.queued + 1;
-    r.used = used;
-    r.back = last;
-    r
 }

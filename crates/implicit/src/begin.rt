@@ -9,14 +9,15 @@ ghost use Rattle.queue.specs.Block.{settled};
 ghost use Rattle.queue.specs.Code.{encode};
 ghost use Rattle.queue.specs.Queue.{codable};
 ghost use Rattle.queue.specs.Ring.{fitsRing, storedBehind};
-ghost use Rattle.decide.specs.Damage.{legalSide};
-ghost use Rattle.implicit.specs.Setup.{leastFrom, startLevel, rootBlock, usedLegal, rangesLegal, firstBytes, setupRefusal, startRecord, startRing, startCells, startedAnswer, pictureOf, ringBegun, cellsBegun};
+ghost use Rattle.implicit.specs.Setup.{leastFrom, startLevel, rootBlock, usedLegal, rangesLegal, firstBytes, setupRefusal, leastRing, startRecord, startRing, startCells, startedAnswer, pictureOf, ringBegun, cellsBegun};
 ghost use Rattle.implicit.specs.Product.{piecesKept, productOf, pieceCount, pieceAt, chosenBy, productCount, productAt, behindWith, behindFirst};
+use super::state::Needed;
 use super::state::Ranges;
 use super::state::Started;
 use super::state::State;
 use coordinate::Coordinate;
 use decide::Picture;
+use decide::damage::is_legal_side;
 use image::Op;
 use interval::Interval;
 use interval::Pieces;
@@ -243,17 +244,14 @@ fn measure_first(p: Picture, ranges: Ranges) -> usize
     k.used
 }
 
-fn is_legal_side(side: u32) -> bool
-    ensures { λ r. ⌜ r ≡ legalSide side ⌝ }
-{
-    (1 <= side) & (side <= 32768)
-}
-
 // Whether a parameter is legal or not used.
 fn is_used_legal(set: u8, d: Direction, range: Interval) -> bool
     ensures { λ r. ⌜ r ≡ usedLegal set d range ⌝ }
 {
-    !is_used(set, d) | interval::is_legal(range, is_integer(d))
+    if !is_used(set, d) {
+        return true;
+    }
+    interval::is_legal(range, is_integer(d))
 }
 
 // Whether the variable set and the ranges of its parameters are legal.
@@ -284,6 +282,20 @@ fn refuse(p: Picture, ranges: Ranges, len: usize, count: usize) -> SetupEnd
         return SetupEnd::Rejected(Refusal::Room);
     }
     SetupEnd::Begun
+}
+
+// The least ring for a setup; what later steps need is not told by it.
+pub fn least_ring(width: u32, height: u32, set: u8, ranges: Ranges) -> Needed
+    ensures { λ r. ⌜ r ≡ leastRing (pictureOf width height set) ranges ⌝ }
+{
+    let p = Picture { width, height, set };
+    if !(is_legal_side(width) & is_legal_side(height)) {
+        return Needed::Refused(Refusal::Side);
+    }
+    if !are_ranges_legal(set, ranges) {
+        return Needed::Refused(Refusal::Parameter);
+    }
+    Needed::Bytes(measure_first(p, ranges))
 }
 
 // A block's code written behind the bytes used, from byte 0 on.

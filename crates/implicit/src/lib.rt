@@ -2,11 +2,28 @@
 // Document 01, "Picture and step" and "Numbers of refusal"; from the Rust's graph/implicit.rs. Every entry takes all numbers and buffers, and refuses by number.
 pub mod advance;
 pub mod begin;
+mod commit;
 pub mod go;
 pub mod list;
 mod record;
 pub mod state;
 mod view;
 
+pub use advance::step;
+pub use begin::least_ring;
+pub use begin::setup;
+pub use go::run;
+pub use list::children;
+pub use state::Counted;
+pub use state::Counts;
+pub use state::Drawn;
+pub use state::Ending;
+pub use state::Listed;
+pub use state::Needed;
+pub use state::Ran;
+pub use state::Ranges;
+pub use state::Started;
+pub use state::State;
+pub use state::Stepped;
 pub use view::counts;
 pub use view::picture;

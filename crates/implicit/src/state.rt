@@ -35,6 +35,12 @@ pub enum Started {
     Refused(Refusal),
 }
 
+// How many bytes a ring needs at least, so that a setup begins.
+pub enum Needed {
+    Bytes(usize),
+    Refused(Refusal),
+}
+
 // A step's answer: the record it leaves, its evaluations and the verdict bytes it took; or why not, with the record as it was given.
 pub enum Stepped {
     Finished {

@@ -1,12 +1,12 @@
--- `advance::carry_child` meets its contract. Assumes nothing.
+-- `commit::carry_child` meets its contract. Assumes nothing.
 use mathlib.Core.Path.{_≡_, refl, sym, ap, _∙_}
 use native.Mathlib.Omega.{arith}
 use denote.Ref.{now}
 use Rattle.implicit.specs.Step.{worldOf}
 use Rattle.implicit.specs.ByChild.{carriedBy}
 use borrow.Author.Needs.{needs}
-use Rattle.implicit.proofs.advance.carry_child.Statement.{statement}
-use Rattle.implicit.proofs.advance.carry_child.Tie as tie
+use Rattle.implicit.proofs.commit.carry_child.Statement.{statement}
+use Rattle.implicit.proofs.commit.carry_child.Tie as tie
 
 enum-told : tie.Need-enum-told
 enum-told c = search needs

@@ -1,10 +1,10 @@
--- `advance::mark_child` meets its contract. Assumes nothing.
+-- `commit::mark_child` meets its contract. Assumes nothing.
 use mathlib.Core.Path.{_≡_, refl, sym, ap, _∙_}
 use denote.Ref.{now}
 use Rattle.implicit.specs.ByChild.{markedBy}
 use borrow.Author.Needs.{needs}
-use Rattle.implicit.proofs.advance.mark_child.Statement.{statement}
-use Rattle.implicit.proofs.advance.mark_child.Tie as tie
+use Rattle.implicit.proofs.commit.mark_child.Statement.{statement}
+use Rattle.implicit.proofs.commit.mark_child.Tie as tie
 
 enum-told : tie.Need-enum-told
 enum-told c = search needs

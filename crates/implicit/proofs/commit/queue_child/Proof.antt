@@ -1,11 +1,11 @@
--- `advance::queue_child` meets its contract. Assumes nothing.
+-- `commit::queue_child` meets its contract. Assumes nothing.
 use mathlib.Core.Path.{_≡_, refl, sym, ap, _∙_}
 use native.Mathlib.Omega.{arith}
 use denote.Ref.{now}
 use Rattle.implicit.proofs.StepLawsCode.{queued-by, queued-done}
 use borrow.Author.Needs.{needs}
-use Rattle.implicit.proofs.advance.queue_child.Statement.{statement}
-use Rattle.implicit.proofs.advance.queue_child.Tie as tie
+use Rattle.implicit.proofs.commit.queue_child.Statement.{statement}
+use Rattle.implicit.proofs.commit.queue_child.Tie as tie
 
 append-requires : tie.Need-append-requires
 append-requires c κs = search needs

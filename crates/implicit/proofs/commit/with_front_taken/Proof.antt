@@ -1,7 +1,7 @@
--- `advance::with_front_taken` meets its contract. Assumes nothing.
+-- `commit::with_front_taken` meets its contract. Assumes nothing.
 use borrow.Author.Needs.{needs}
-use Rattle.implicit.proofs.advance.with_front_taken.Statement.{statement}
-use Rattle.implicit.proofs.advance.with_front_taken.Tie as tie
+use Rattle.implicit.proofs.commit.with_front_taken.Statement.{statement}
+use Rattle.implicit.proofs.commit.with_front_taken.Tie as tie
 
 add-t5 : tie.Need-add-t5
 add-t5 c = search needs

@@ -1,4 +1,4 @@
--- `advance::commit` meets its contract. Assumes nothing.
+-- `commit::commit` meets its contract. Assumes nothing.
 use mathlib.Core.Path.{_≡_, refl, sym, ap, _∙_}
 use native.Mathlib.Omega.{arith}
 use denote.Ref.{now}
@@ -6,8 +6,8 @@ use Rattle.implicit.specs.Step.{worldOf}
 use Rattle.implicit.specs.ByChild.{carriedAll}
 use Rattle.implicit.proofs.StepLawsCode.{committed-by}
 use borrow.Author.Needs.{needs}
-use Rattle.implicit.proofs.advance.commit.Statement.{statement}
-use Rattle.implicit.proofs.advance.commit.Tie as tie
+use Rattle.implicit.proofs.commit.commit.Statement.{statement}
+use Rattle.implicit.proofs.commit.commit.Tie as tie
 
 mark-children-requires : tie.Need-mark-children-requires
 mark-children-requires c κs = c .before .before .before .pre .2

@@ -1,11 +1,11 @@
--- `advance::paint_block` meets its contract. Assumes nothing.
+-- `commit::paint_block` meets its contract. Assumes nothing.
 use mathlib.Core.Path.{_≡_, refl, sym, ap, _∙_}
 use denote.Ref.{now}
 use Rattle.image.specs.declared.PixelRange.{PixelRange}
 use Rattle.image.specs.Painting.{paintedCells}
 use borrow.Author.Needs.{needs}
-use Rattle.implicit.proofs.advance.paint_block.Statement.{statement}
-use Rattle.implicit.proofs.advance.paint_block.Tie as tie
+use Rattle.implicit.proofs.commit.paint_block.Statement.{statement}
+use Rattle.implicit.proofs.commit.paint_block.Tie as tie
 
 rectangle-requires : tie.Need-rectangle-requires
 rectangle-requires c κs = search needs
