@@ -1,0 +1,40 @@
+-- The picture of a world that a setup and finished steps leave: with room it is drawn, and shows what the pixels read. Assumes nothing.
+use mathlib.Core.Path.{_≡_, ap, _∙_}
+use mathlib.Core.List.{List}
+use Prim.Native.Nat.{ℕ, _*_, _≤_, _<_}
+use native.Mathlib.Omega.{arith}
+use lib.ListN.{length, drop, getD, List·getD-append}
+use Rattle.image.specs.Cell.{meanings, reading, byteOf}
+use Rattle.image.specs.Range.{cellIndex}
+use Rattle.image.specs.Painting.{pixelCell}
+use Rattle.image.proofs.RangeLaws.{cell-below}
+use Rattle.decide.specs.declared.Picture.{Picture}
+use Rattle.implicit.specs.declared.state.Drawn.the-variants as Drawn
+use Rattle.implicit.specs.Record.{pixelCount}
+use Rattle.implicit.specs.Step.{World}
+use Rattle.implicit.specs.View.{pictureBytes, pictureLeft, pictureAnswer}
+use Rattle.implicit.proofs.ViewLaws.{picture-length, picture-byte}
+use Rattle.promises.specs.Chart.{Pixel}
+use Rattle.promises.specs.Steps.{readsIn}
+use Rattle.promises.proofs.Linked.{Reached}
+use Rattle.promises.proofs.NeverDamaged.{picture-drawn}
+
+-- the picture's byte of a pixel
+byte-at : (p : Picture) (w : World) → w .state .picture ≡ p → pixelCount (w .state .picture) ≤ length (w .cells) → (x y : ℕ) → x < p .width → y < p .height
+    → getD (pictureBytes (w .state) (w .cells)) (cellIndex (p .width) (p .height) x y) 0 ≡ byteOf (reading (w .state .taken) (pixelCell (p .width) (p .height) x y (meanings (w .cells))))
+byte-at p w e k x y a b = rw (← e) (picture-byte (w .state) (w .cells) x y k (rw e a) (rw e b))
+
+-- and the buffer's
+pub drawn : (p : Picture) (w : World) → Reached p w → (out : List ℕ) → pixelCount p ≤ length out → (q : Pixel p)
+    → (pictureAnswer (w .state) (w .cells) (length out) ≡ Drawn.Done)
+    × (getD (pictureLeft (w .state) (w .cells) out) (cellIndex (p .width) (p .height) (q .x) (q .y)) 0 ≡ byteOf (readsIn p w q))
+unfolding pictureLeft readsIn
+drawn p w h out room q =
+    let i = cellIndex (p .width) (p .height) (q .x) (q .y) in
+    let k : i < p .width * p .height = cell-below (p .width) (p .height) (q .x) (q .y) (q .x-in) (q .y-in) in
+    let m : pixelCount (w .state .picture) ≡ p .width * p .height = ap pixelCount (h .picture) in
+    let n = picture-length (w .state) (w .cells) (h .keeps .enough) in (
+      picture-drawn w (h .blocks) (h .keeps) (length out) (rw (h .picture) room),
+      List·getD-append (pictureBytes (w .state) (w .cells)) (drop (pixelCount (w .state .picture)) out) 0 i (omega (arith, k, m, n))
+          ∙ byte-at p w (h .picture) (h .keeps .enough) (q .x) (q .y) (q .x-in) (q .y-in),
+    )

@@ -1,0 +1,37 @@
+-- What is promised of the engine. Promises is the reader's entry: each promise under its sentence.
+pub mod Promises
+-- the words of the engine and those of `theory`
+pub mod Covering
+pub mod Standings
+pub mod CellsKept
+pub mod EventsEach
+-- the invariant, and the engine's steps as `theory`'s
+pub mod Remembered
+pub mod Invariant
+pub mod StepKeeps
+pub mod SetupKeeps
+pub mod Linked
+-- the promises
+pub mod Demand3
+pub mod RunSteps
+pub mod NeverDamaged
+pub mod Drawing
+pub mod Places
+pub mod PlaneBounds
+pub mod Alike
+pub mod Even
+pub mod TrueKept
+-- what the colours mean: a step's turns, the cuts, the question, the theorems
+pub mod TurnsPlaces
+pub mod Turns
+pub mod CutSpans
+pub mod CutWholes
+pub mod CutReals
+pub mod CutIntegers
+pub mod MixesSplit
+pub mod MixesFirst
+pub mod MixesExact
+pub mod ColoursHold
+-- a closed instance
+pub mod Example
+pub mod ColoursExample

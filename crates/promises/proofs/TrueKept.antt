@@ -1,0 +1,53 @@
+-- True stays True, and a reading only changes away from Uncertain, for the engine, cited from `theory`. Assumes nothing.
+use mathlib.Core.Path.{_≡_, sym, ap, _∙_}
+use mathlib.Core.Logic.{_⊎_, inl, inr}
+use mathlib.Core.Bool.{false}
+use Prim.Native.Nat.{ℕ}
+use Rattle.base.proofs.Test.{cases}
+use Rattle.theory.specs.Runs.{EveryStep}
+use Rattle.theory.specs.Cells.{readsTrue, readsUncertain}
+use Rattle.theory.specs.Demand3.{pixelReads, LooksBeforeGivingUp, GivesUpAlike, GivesUpOnePixel, KeepsTrue}
+use Rattle.theory.proofs.Theorems as Theory
+use Rattle.image.specs.declared.Reading.the-variants as R
+use Rattle.queue.specs.declared.directions.Direction.the-variants as D
+use Rattle.queue.specs.Directions.{inUse}
+use Rattle.implicit.specs.Step.{World}
+use Rattle.promises.specs.Chart.{Pixel, coversIn, snapshotOf}
+use Rattle.promises.specs.Steps.{Asked, BegunAs, Steps, readsIn}
+use Rattle.promises.proofs.Standings.{shown}
+use Rattle.promises.proofs.Linked.{Reached, begun-reached, begun-passed, begun-accepted, steps-reached, in-theory, each-linked}
+use Rattle.promises.proofs.Demand3.{reads-linked, reads-both}
+use Rattle.promises.proofs.Alike.{looks, one-pixel}
+use Rattle.promises.proofs.Even.{begun-even, even-steps, even-alike}
+
+module _ (a : Asked) {w₀ : World} (z : BegunAs a w₀) {n : ℕ} {w : World} (r₀ : Steps n w₀ w) where
+  abbrev start : Reached (a .picture) w
+  start = steps-reached (a .picture) (begun-reached a w₀ z) r₀
+
+  -- a step that gives up sees cells alike
+  alike : {m : ℕ} {w′ : World} (r : Steps m w w′) → EveryStep (coversIn (a .picture)) false (GivesUpAlike (coversIn (a .picture)) false) (in-theory (a .picture) start r)
+  alike r =
+      cases (inUse (a .picture .set) D.XY)
+      (λ u. Theory.alike-with-xy (coversIn (a .picture)) false (in-theory (a .picture) start r)
+      (each-linked (a .picture) start (GivesUpOnePixel (coversIn (a .picture)) false) (λ v v′ vs l. one-pixel (a .picture) u v v′ vs l) r))
+      (λ u. (let g = begun-passed a w₀ z in
+      even-alike (a .picture) u (g .width-most) (g .height-most) start (even-steps (a .picture) u (g .width-most) (g .height-most) (begun-reached a w₀ z) (begun-even a w₀ z u) r₀) r))
+
+  keeps-true : {m : ℕ} {w′ : World} (r : Steps m w w′) → KeepsTrue (coversIn (a .picture)) false (in-theory (a .picture) start r)
+  unfolding KeepsTrue
+  keeps-true r = inr (each-linked (a .picture) start (LooksBeforeGivingUp (coversIn (a .picture)) false) (λ v v′ vs l. looks (a .picture) v v′ vs l) r, alike r)
+
+  pub true-kept : {m : ℕ} {w′ : World} → Steps m w w′ → (q : Pixel (a .picture)) → readsIn (a .picture) w q ≡ R.True → readsIn (a .picture) w′ q ≡ R.True
+  true-kept {w′ = w′} r q e =
+      reads-both (a .picture) w′ q readsTrue .1
+      (Theory.true-stays (coversIn (a .picture)) false (in-theory (a .picture) start r) (keeps-true r) q (reads-both (a .picture) w q readsTrue .0 e))
+
+  pub from-uncertain : {m : ℕ} {w′ : World} → Steps m w w′ → (q : Pixel (a .picture))
+      → (readsIn (a .picture) w′ q ≡ readsIn (a .picture) w q) ⊎ (readsIn (a .picture) w q ≡ R.Uncertain)
+  from-uncertain {w′ = w′} r q =
+      go (Theory.reading-order (coversIn (a .picture)) false (begun-accepted a w₀ z) (in-theory (a .picture) (begun-reached a w₀ z) r₀) (in-theory (a .picture) start r) (keeps-true r) q)
+    where
+      go : (pixelReads (snapshotOf (a .picture) w′) q ≡ pixelReads (snapshotOf (a .picture) w) q) ⊎ (pixelReads (snapshotOf (a .picture) w) q ≡ readsUncertain)
+          → (readsIn (a .picture) w′ q ≡ readsIn (a .picture) w q) ⊎ (readsIn (a .picture) w q ≡ R.Uncertain)
+      go (inl e) = inl (reads-linked (a .picture) w′ q ∙ ap shown e ∙ sym (reads-linked (a .picture) w q))
+      go (inr e) = inr (reads-both (a .picture) w q readsUncertain .1 e)

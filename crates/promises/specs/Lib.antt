@@ -1,0 +1,5 @@
+-- The words in which the engine's promises are stated.
+pub mod Chart
+pub mod Steps
+pub mod Turns
+pub mod Mixes
