@@ -1,0 +1,48 @@
+-- What stands in the table of words.
+use mathlib.Core.List.{List}
+use Prim.Native.Nat.{ℕ, _+_, _%_}
+use lib.Ieee.{binary64, ofBits}
+use lib.ListN.{getD}
+use Rattle.interval.specs.declared.Interval.{Interval}
+use Rattle.queue.specs.declared.Last.{Last}
+use Rattle.decide.specs.declared.Picture.{Picture}
+use Rattle.implicit.specs.declared.state.State.{State}
+use Rattle.implicit.specs.declared.state.Ranges.{Ranges}
+
+-- bounds by their bit patterns
+unfoldable pub intervalAt : List ℕ → ℕ → Interval
+intervalAt w at = record { lower = ofBits binary64 (getD w at 0); upper = ofBits binary64 (getD w (at + 1) 0) }
+
+-- remembered values: two indices, then m, n, n_theta, t
+unfoldable pub lastAt : List ℕ → ℕ → Last
+lastAt w at =
+    record {
+      x = getD w at 0;
+      y = getD w (at + 1) 0;
+      m = intervalAt w (at + 2);
+      n = intervalAt w (at + 4);
+      theta = intervalAt w (at + 6);
+      t = intervalAt w (at + 8);
+    }
+
+-- sides and set
+abbrev pub pictureAt : List ℕ → Picture
+pictureAt w = record { width = getD w 0 0 % 4294967296; height = getD w 1 0 % 4294967296; set = getD w 2 0 % 256 }
+
+-- the record
+unfoldable pub stateAt : List ℕ → State
+stateAt w =
+    record {
+      picture = pictureAt w;
+      taken = getD w 3 0;
+      queued = getD w 4 0;
+      len = getD w 5 0;
+      head = getD w 6 0;
+      used = getD w 7 0;
+      front = lastAt w 8;
+      back = lastAt w 18;
+    }
+
+-- the ranges of the four parameters
+unfoldable pub rangesAt : List ℕ → Ranges
+rangesAt w = record { m = intervalAt w 28; n = intervalAt w 30; theta = intervalAt w 32; t = intervalAt w 34 }
