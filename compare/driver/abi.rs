@@ -1,6 +1,6 @@
 //! The C interface by which another engine is compared: what crosses it, in the order of its fields.
 //! A slice crosses as a pointer and a count of elements; an answer starts with its refusal, or 0.
-//! The rank of a coordinate is its level + 48. Refused, the answer carries the state that was given.
+//! Refused, a step's or a run's answer carries the state that was given. include/smyrilox.h says more.
 
 #[repr(C)]
 #[derive(Clone, Copy, Default)]
@@ -13,19 +13,27 @@ pub struct Interval {
 #[derive(Clone, Copy, Default)]
 pub struct Coordinate {
     pub index: u64,
-    pub rank: u8,
+    pub level: i32,
 }
 
 #[repr(C)]
 #[derive(Clone, Copy, Default)]
-pub struct Block {
+pub struct Child {
     pub x: Coordinate,
     pub y: Coordinate,
     pub m: Interval,
     pub n: Interval,
     pub theta: Interval,
     pub t: Interval,
-    pub dir: u8,
+}
+
+#[repr(C)]
+#[derive(Clone, Copy, Default)]
+pub struct Ranges {
+    pub m: Interval,
+    pub n: Interval,
+    pub theta: Interval,
+    pub t: Interval,
 }
 
 #[repr(C)]
@@ -73,7 +81,7 @@ pub struct Started {
 pub struct Listed {
     pub refusal: u64,
     pub count: usize,
-    pub at: [Block; 4],
+    pub at: [Child; 4],
 }
 
 #[repr(C)]
@@ -81,11 +89,11 @@ pub struct Listed {
 pub struct Stepped {
     pub refusal: u64,
     pub evaluations: u64,
-    pub tape: u64,
+    pub tape: usize,
     pub state: State,
 }
 
-/// The ending is 0 done, 1 limit, 2 more, 3 stop; `stop` is the refusal that stopped the run, or 0.
+/// The ending is 1 done, 2 limit, 3 more, 4 stop, 0 where refused; `stop` is the refusal that stopped the run, or 0.
 #[repr(C)]
 #[derive(Clone, Copy, Default)]
 pub struct Ran {
@@ -94,20 +102,26 @@ pub struct Ran {
     pub stop: u64,
     pub steps: u64,
     pub evaluations: u64,
-    pub tape: u64,
+    pub tape: usize,
     pub state: State,
+}
+
+#[repr(C)]
+#[derive(Clone, Copy, Default)]
+pub struct Counts {
+    pub trues: u64,
+    pub falses: u64,
+    pub uncertain: u64,
+    pub givenup: u64,
+    pub queued: u64,
+    pub share: u64,
 }
 
 #[repr(C)]
 #[derive(Clone, Copy, Default)]
 pub struct Counted {
     pub refusal: u64,
-    pub yes: u64,
-    pub no: u64,
-    pub uncertain: u64,
-    pub givenup: u64,
-    pub queued: u64,
-    pub share: u64,
+    pub counts: Counts,
 }
 
 #[repr(C)]
@@ -140,7 +154,7 @@ pub struct Code {
     pub refusal: u64,
     pub head: u8,
     pub tail: u64,
-    pub count: u8,
+    pub count: usize,
 }
 
 #[repr(C)]
@@ -148,7 +162,7 @@ pub struct Code {
 pub struct Read {
     pub refusal: u64,
     pub value: u64,
-    pub length: usize,
+    pub count: usize,
 }
 
 #[repr(C)]

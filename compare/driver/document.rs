@@ -4,7 +4,7 @@
 use crate::{
     blocks::*,
     engine::*,
-    exact::{is_legal, Paper},
+    exact::{is_legal, put, Paper},
     leaves::Leaves,
 };
 
@@ -53,6 +53,11 @@ impl Maker for DocumentMaker {
     }
 }
 
+/// What a record remembers, with its zeros put.
+fn put_last(last: &Last) -> Last {
+    Last { parameters: last.parameters.map(put), ..*last }
+}
+
 /// The product of the first cuts, m outermost.
 fn first_blocks(setup: &Setup) -> Vec<Block> {
     let level = (0..).find(|&k| 1u32 << k >= setup.width.max(setup.height)).unwrap();
@@ -90,13 +95,17 @@ impl Document {
     }
 
     fn is_damaged(&self) -> bool {
+        self.record.len != self.ring.len() || self.is_damaged_alone()
+    }
+
+    /// Without a ring: the record's own length of one is taken as right.
+    fn is_damaged_alone(&self) -> bool {
         let r = &self.record;
         let bad_last = |l: &Last| l.x >> 47 > 0 || l.y >> 47 > 0 || (0..4).any(|i| !is_legal(l.parameters[i], i < 3));
         [r.width, r.height].iter().any(|side| !(1..=32768).contains(side))
             || r.set > 63
             || r.taken > r.queued
             || r.queued > 1 << 32
-            || r.len != self.ring.len()
             || r.head >= r.len
             || r.used > r.len
             || (r.used == 0) != (r.taken == r.queued)
@@ -107,7 +116,7 @@ impl Document {
     /// The front block and the length of its code.
     fn front(&self) -> Result<(Block, usize), Refusal> {
         let r = &self.record;
-        let (block, length) = decoded(r.set, &queue_bytes(r, &self.ring), &r.front).ok_or(8u32)?;
+        let (block, length) = decoded(r.set, &queue_bytes(r, &self.ring), &put_last(&r.front)).ok_or(8u32)?;
         let directions = directions(r.set);
         let is_going = match directions.get(block.direction as usize) {
             Some(Direction::Xy) => block.level > -32,
@@ -171,7 +180,7 @@ impl Document {
 
     fn picture_refusal(&self, room: usize) -> Option<Refusal> {
         let pixels = self.pixels();
-        if self.is_damaged() {
+        if self.is_damaged_alone() {
             Some(8)
         } else if self.cells.len() < pixels {
             Some(2)
@@ -297,7 +306,7 @@ impl Document {
         if !new.is_empty() && self.record.queued + new.len() as u64 > 1 << 32 {
             return Err(7);
         }
-        let (bytes, back) = codes(self.record.set, &new, &self.record.back);
+        let (bytes, back) = codes(self.record.set, &new, &put_last(&self.record.back));
         if self.record.used - length + bytes.len() > self.record.len {
             return Err(6);
         }

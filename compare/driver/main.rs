@@ -5,8 +5,12 @@
 #[cfg(port)]
 mod abi;
 mod blocks;
+#[cfg(port)]
+mod calls;
 mod damaged;
 mod document;
+#[cfg(port)]
+mod edges;
 mod engine;
 mod exact;
 mod faulty;
@@ -42,6 +46,7 @@ driver damaged SEED CASES
 driver signs SEED CASES STEPS
 driver torn SEED CASES STEPS
 driver faults SEED
+driver edges SEED COUNT (with a port)
 driver record SEED CASES STEPS FILE
 driver record-all SIDE FILE";
 
@@ -102,6 +107,12 @@ fn leaves(start: Instant, seed: u64, count: u64) -> usize {
     let leaves::Asked { intervals, numbers, coordinates, differences } = seen;
     let figures = format!("{intervals} intervals, {numbers} numbers, {coordinates} coordinates");
     report("leaves", start, figures, &differences)
+}
+
+#[cfg(port)]
+fn edges(start: Instant, seed: u64, count: u64) -> usize {
+    let edges::Edges { questions, refusals, differences } = edges::ask(seed, count);
+    report("edges", start, format!("{questions} questions, {refusals} refusals due"), &differences)
 }
 
 /// Every aspect spoiled in turn, which the comparison must notice and name. Answers how often it did not.
@@ -169,6 +180,8 @@ fn main() {
             replay(start, "first", &FIRST, &text) + replay(start, "second", &SECOND, &text)
         }
         ["leaves", seed, count] => leaves(start, number(seed), number(count)),
+        #[cfg(port)]
+        ["edges", seed, count] => edges(start, number(seed), number(count)),
         ["faults", seed] => faults(start, number(seed)),
         ["record", seed, cases, steps, file] => record(number(seed), number(cases), number(steps), file),
         ["record-all", side, file] => record_all(number(side), file),

@@ -1,61 +1,6 @@
 //! Another engine behind the C interface of `abi.rs`, with the memory that it is lent.
 
-use crate::{abi, engine::*, leaves::Leaves};
-
-extern "C" {
-    fn smyrilox_setup(
-        width: u32,
-        height: u32,
-        set: u8,
-        m: abi::Interval,
-        n: abi::Interval,
-        theta: abi::Interval,
-        t: abi::Interval,
-        ring: *mut u8,
-        ring_len: usize,
-        cells: *mut u64,
-        cells_len: usize,
-    ) -> abi::Started;
-    fn smyrilox_children(state: abi::State, ring: *const u8, ring_len: usize) -> abi::Listed;
-    fn smyrilox_step(
-        state: abi::State,
-        ring: *mut u8,
-        ring_len: usize,
-        cells: *mut u64,
-        cells_len: usize,
-        verdicts: *const u8,
-        verdicts_len: usize,
-    ) -> abi::Stepped;
-    fn smyrilox_run(
-        state: abi::State,
-        ring: *mut u8,
-        ring_len: usize,
-        cells: *mut u64,
-        cells_len: usize,
-        tape: *const u8,
-        tape_len: usize,
-        budget: u32,
-    ) -> abi::Ran;
-    fn smyrilox_picture(
-        state: abi::State,
-        cells: *const u64,
-        cells_len: usize,
-        picture: *mut u8,
-        picture_len: usize,
-    ) -> u64;
-    fn smyrilox_counts(state: abi::State, cells: *const u64, cells_len: usize) -> abi::Counted;
-    fn smyrilox_midpoint(x: abi::Interval) -> abi::Point;
-    fn smyrilox_simple_fraction(x: abi::Interval) -> abi::Point;
-    fn smyrilox_subdivision_point(x: abi::Interval, integer: bool) -> abi::Point;
-    fn smyrilox_is_subdivisible(x: abi::Interval, integer: bool) -> abi::Number;
-    fn smyrilox_first_cut(x: abi::Interval, integer: bool) -> abi::Pieces;
-    fn smyrilox_later_cut(x: abi::Interval, integer: bool) -> abi::Pieces;
-    fn smyrilox_write_small(x: u64) -> abi::Code;
-    fn smyrilox_read_small(bytes: *const u8, bytes_len: usize) -> abi::Read;
-    fn smyrilox_pixel_index(c: abi::Coordinate) -> abi::Number;
-    fn smyrilox_halves(c: abi::Coordinate) -> abi::Halves;
-    fn smyrilox_is_halvable(c: abi::Coordinate) -> abi::Number;
-}
+use crate::{abi, calls::*, engine::*, leaves::Leaves};
 
 fn interval((lower, upper): Bounds) -> abi::Interval {
     abi::Interval { lower, upper }
@@ -123,8 +68,8 @@ impl Maker for PortMaker {
         let [m, n, theta, t] = setup.parameters.map(interval);
         let Setup { width, height, set, .. } = *setup;
         let (ring_at, ring_len, cells_at, cells_len) = (ring.as_mut_ptr(), ring.len(), cells.as_mut_ptr(), cells.len());
-        let made =
-            unsafe { smyrilox_setup(width, height, set, m, n, theta, t, ring_at, ring_len, cells_at, cells_len) };
+        let ranges = abi::Ranges { m, n, theta, t };
+        let made = unsafe { smyrilox_setup(width, height, set, ranges, ring_at, ring_len, cells_at, cells_len) };
         told(made.refusal, Port { state: made.state, ring, cells })
     }
 
@@ -148,10 +93,10 @@ impl Engine for Port {
 
     fn children(&self) -> Result<Vec<Child>, Refusal> {
         let listed = unsafe { smyrilox_children(self.state, self.ring.as_ptr(), self.ring.len()) };
-        let child = |b: &abi::Block| {
-            assert!(b.x.rank == b.y.rank);
+        let child = |b: &abi::Child| {
+            assert!(b.x.level == b.y.level);
             let parameters = [b.m, b.n, b.theta, b.t].map(bounds);
-            Child { x: b.x.index, y: b.y.index, level: b.x.rank as i8 - 48, parameters }
+            Child { x: b.x.index, y: b.y.index, level: b.x.level as i8, parameters }
         };
         told(listed.refusal, listed.at[..listed.count].iter().map(child).collect())
     }
@@ -162,7 +107,7 @@ impl Engine for Port {
         let done =
             unsafe { smyrilox_step(self.state, ring, ring_len, cells, cells_len, verdicts.as_ptr(), verdicts.len()) };
         self.state = done.state;
-        told(done.refusal, Stepped { evaluations: done.evaluations, tape: done.tape })
+        told(done.refusal, Stepped { evaluations: done.evaluations, tape: done.tape as u64 })
     }
 
     fn run(&mut self, tape: &[u8], budget: u32) -> Result<Ran, Refusal> {
@@ -171,14 +116,17 @@ impl Engine for Port {
         let ran =
             unsafe { smyrilox_run(self.state, ring, ring_len, cells, cells_len, tape.as_ptr(), tape.len(), budget) };
         self.state = ran.state;
+        if ran.refusal != 0 {
+            return Err(ran.refusal as Refusal);
+        }
         let end = match ran.ending {
-            0 => RunEnd::Done,
-            1 => RunEnd::Limit,
-            2 => RunEnd::More,
-            3 => RunEnd::Stop(ran.stop as Refusal),
+            1 => RunEnd::Done,
+            2 => RunEnd::Limit,
+            3 => RunEnd::More,
+            4 => RunEnd::Stop(ran.stop as Refusal),
             other => panic!("no ending has the number {other}"),
         };
-        told(ran.refusal, Ran { end, steps: ran.steps, evaluations: ran.evaluations, tape: ran.tape })
+        Ok(Ran { end, steps: ran.steps, evaluations: ran.evaluations, tape: ran.tape as u64 })
     }
 
     fn picture(&self, bytes: &mut [u8]) -> Result<(), Refusal> {
@@ -189,8 +137,8 @@ impl Engine for Port {
 
     fn counts(&self) -> Result<Counts, Refusal> {
         let c = unsafe { smyrilox_counts(self.state, self.cells.as_ptr(), self.cells.len()) };
-        let abi::Counted { yes, no, uncertain, givenup, queued, share, .. } = c;
-        told(c.refusal, Counts { yes, no, uncertain, given_up: givenup, queued, share })
+        let abi::Counts { trues, falses, uncertain, givenup, queued, share } = c.counts;
+        told(c.refusal, Counts { yes: trues, no: falses, uncertain, given_up: givenup, queued, share })
     }
 }
 
@@ -206,7 +154,7 @@ fn pieces(p: abi::Pieces) -> Vec<Bounds> {
 }
 
 fn coordinate(index: u64, level: i8) -> abi::Coordinate {
-    abi::Coordinate { index, rank: (level + 48) as u8 }
+    abi::Coordinate { index, level: level as i32 }
 }
 
 impl Leaves for PortLeaves {
@@ -241,13 +189,13 @@ impl Leaves for PortLeaves {
     fn write_small(&self, x: u64) -> Vec<u8> {
         let told = unsafe { smyrilox_write_small(x) };
         let mut code = vec![told.head];
-        code.extend(&told.tail.to_le_bytes()[..told.count as usize]);
+        code.extend(&told.tail.to_le_bytes()[..told.count]);
         answered(told.refusal, code)
     }
 
     fn read_small(&self, bytes: &[u8]) -> (u64, usize) {
         let told = unsafe { smyrilox_read_small(bytes.as_ptr(), bytes.len()) };
-        answered(told.refusal, (told.value, told.length))
+        answered(told.refusal, (told.value, told.count))
     }
 
     fn pixel_index(&self, index: u64, level: i8) -> u64 {
@@ -257,8 +205,8 @@ impl Leaves for PortLeaves {
 
     fn halves(&self, index: u64, level: i8) -> ([u64; 2], i8) {
         let told = unsafe { smyrilox_halves(coordinate(index, level)) };
-        assert!(told.low.rank == told.high.rank);
-        answered(told.refusal, ([told.low.index, told.high.index], told.low.rank as i8 - 48))
+        assert!(told.low.level == told.high.level);
+        answered(told.refusal, ([told.low.index, told.high.index], told.low.level as i8))
     }
 
     fn is_halvable(&self, level: i8) -> bool {

@@ -55,20 +55,30 @@ fn left(engine: &Original, ring: &mut [u8], cells: &mut [u64]) -> abi::State {
 }
 
 #[no_mangle]
+pub extern "C" fn smyrilox_cells(width: u32, height: u32) -> abi::Number {
+    number(width as u64 * height as u64)
+}
+
+#[no_mangle]
+pub extern "C" fn smyrilox_least_ring(width: u32, height: u32, set: u8, ranges: abi::Ranges) -> abi::Number {
+    let abi::Ranges { m, n, theta, t } = ranges;
+    let setup = Setup { width, height, set, parameters: [m, n, theta, t].map(bounds) };
+    number(oracle::oracle::Oracle::setup(&setup, Manner::Torn).byte_count() as u64)
+}
+
+#[no_mangle]
 pub unsafe extern "C" fn smyrilox_setup(
     width: u32,
     height: u32,
     set: u8,
-    m: abi::Interval,
-    n: abi::Interval,
-    theta: abi::Interval,
-    t: abi::Interval,
+    ranges: abi::Ranges,
     ring: *mut u8,
     ring_len: usize,
     cells: *mut u64,
     cells_len: usize,
 ) -> abi::Started {
     let (ring, cells) = (from_raw_parts_mut(ring, ring_len), from_raw_parts_mut(cells, cells_len));
+    let abi::Ranges { m, n, theta, t } = ranges;
     let setup = Setup { width, height, set, parameters: [m, n, theta, t].map(bounds) };
     match MAKER.setup(&setup, ring.to_vec(), cells.to_vec()) {
         Err(refusal) => abi::Started { refusal: refusal as u64, ..Default::default() },
@@ -85,10 +95,10 @@ pub unsafe extern "C" fn smyrilox_children(state: abi::State, ring: *const u8, r
         Err(refusal) => listed.refusal = refusal as u64,
         Ok(children) => {
             listed.count = children.len();
-            for (block, child) in listed.at.iter_mut().zip(&children) {
+            for (place, child) in listed.at.iter_mut().zip(&children) {
                 let [m, n, theta, t] = child.parameters.map(interval);
-                let at = |index| abi::Coordinate { index, rank: (child.level + 48) as u8 };
-                *block = abi::Block { x: at(child.x), y: at(child.y), m, n, theta, t, dir: 0 };
+                let at = |index| abi::Coordinate { index, level: child.level as i32 };
+                *place = abi::Child { x: at(child.x), y: at(child.y), m, n, theta, t };
             }
         }
     }
@@ -111,7 +121,7 @@ pub unsafe extern "C" fn smyrilox_step(
         Err(refusal) => abi::Stepped { refusal: refusal as u64, state, ..Default::default() },
         Ok(done) => {
             let Stepped { evaluations, tape } = done;
-            abi::Stepped { refusal: 0, evaluations, tape, state: left(&engine, ring, cells) }
+            abi::Stepped { refusal: 0, evaluations, tape: tape as usize, state: left(&engine, ring, cells) }
         }
     }
 }
@@ -131,13 +141,14 @@ pub unsafe extern "C" fn smyrilox_run(
     let mut engine = taken_up(&state, ring, cells);
     let ran = engine.run(from_raw_parts(tape, tape_len), budget).expect("a run on a sound record");
     let (ending, stop) = match ran.end {
-        RunEnd::Done => (0, 0),
-        RunEnd::Limit => (1, 0),
-        RunEnd::More => (2, 0),
-        RunEnd::Stop(number) => (3, number as u64),
+        RunEnd::Done => (1, 0),
+        RunEnd::Limit => (2, 0),
+        RunEnd::More => (3, 0),
+        RunEnd::Stop(number) => (4, number as u64),
     };
     let state = left(&engine, ring, cells);
-    abi::Ran { refusal: 0, ending, stop, steps: ran.steps, evaluations: ran.evaluations, tape: ran.tape, state }
+    let Ran { steps, evaluations, tape, .. } = ran;
+    abi::Ran { refusal: 0, ending, stop, steps, evaluations, tape: tape as usize, state }
 }
 
 #[no_mangle]
@@ -159,7 +170,8 @@ pub unsafe extern "C" fn smyrilox_counts(state: abi::State, cells: *const u64, c
     let bare = abi::State { len: 1, head: 0, used: 0, ..state };
     let engine = taken_up(&bare, &[0], from_raw_parts(cells, cells_len));
     let Counts { yes, no, uncertain, given_up, queued, share } = engine.counts().expect("counts of a sound record");
-    abi::Counted { refusal: 0, yes, no, uncertain, givenup: given_up, queued, share }
+    let counts = abi::Counts { trues: yes, falses: no, uncertain, givenup: given_up, queued, share };
+    abi::Counted { refusal: 0, counts }
 }
 
 fn point(value: f64) -> abi::Point {
@@ -210,28 +222,28 @@ pub extern "C" fn smyrilox_write_small(x: u64) -> abi::Code {
     let code = leaf::write_small(x, 0);
     let mut tail = [0; 8];
     tail[..code.len() - 1].copy_from_slice(&code[1..]);
-    abi::Code { refusal: 0, head: code[0], tail: u64::from_le_bytes(tail), count: code.len() as u8 - 1 }
+    abi::Code { refusal: 0, head: code[0], tail: u64::from_le_bytes(tail), count: code.len() - 1 }
 }
 
 #[no_mangle]
 pub unsafe extern "C" fn smyrilox_read_small(bytes: *const u8, bytes_len: usize) -> abi::Read {
-    let (value, length) = leaf::read_small(from_raw_parts(bytes, bytes_len), 0);
-    abi::Read { refusal: 0, value, length }
+    let (value, count) = leaf::read_small(from_raw_parts(bytes, bytes_len), 0);
+    abi::Read { refusal: 0, value, count }
 }
 
 #[no_mangle]
 pub extern "C" fn smyrilox_pixel_index(c: abi::Coordinate) -> abi::Number {
-    number(leaf::pixel_index(c.index, c.rank as i8 - 48) as u64)
+    number(leaf::pixel_index(c.index, c.level as i8) as u64)
 }
 
 #[no_mangle]
 pub extern "C" fn smyrilox_halves(c: abi::Coordinate) -> abi::Halves {
-    let ([low, high], level) = leaf::halves(c.index, c.rank as i8 - 48);
-    let at = |index| abi::Coordinate { index, rank: (level + 48) as u8 };
+    let ([low, high], level) = leaf::halves(c.index, c.level as i8);
+    let at = |index| abi::Coordinate { index, level: level as i32 };
     abi::Halves { refusal: 0, low: at(low), high: at(high) }
 }
 
 #[no_mangle]
 pub extern "C" fn smyrilox_is_halvable(c: abi::Coordinate) -> abi::Number {
-    number(leaf::is_subdivisible_coordinate(c.index, c.rank as i8 - 48) as u64)
+    number(leaf::is_subdivisible_coordinate(c.index, c.level as i8) as u64)
 }

@@ -118,6 +118,12 @@ impl Oracle {
         made
     }
 
+    /// From here on no step's listing is kept: for whole runs that are timed.
+    pub fn unwatched(mut self) -> Self {
+        self.graph.relation_mut().watch(false);
+        self
+    }
+
     /// The children of the front block, none if the queue is empty.
     pub fn children(&self) -> Vec<Child> {
         self.graph.front_children().unwrap_or_default().iter().map(child).collect()
@@ -195,10 +201,15 @@ impl Oracle {
         self.graph.cells()
     }
 
+    /// Draws into an image of the picture's sides.
+    pub fn draw(&self, image: &mut Image<Ternary>) {
+        self.graph.get_image(image);
+    }
+
     /// A byte a pixel, rows from the top: False 0, Uncertain 1, True 2.
     pub fn picture(&self, width: u32, height: u32) -> Vec<u8> {
         let mut image = Image::new(width, height);
-        self.graph.get_image(&mut image);
+        self.draw(&mut image);
         let code = |reading: &Ternary| match reading {
             Ternary::False => 0,
             Ternary::Uncertain => 1,

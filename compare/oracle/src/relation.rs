@@ -53,6 +53,7 @@ pub struct Relation {
     given: usize,
     verdict: u8,
     asked: u32,
+    watched: bool,
     listed: Vec<Block>,
     bytes_left: usize,
 }
@@ -80,6 +81,7 @@ impl Relation {
             given: 0,
             verdict: 0,
             asked: 0,
+            watched: true,
             listed: vec![],
             bytes_left: 0,
         }
@@ -89,6 +91,11 @@ impl Relation {
     pub fn load(&mut self, verdicts: &[u8]) {
         self.verdicts = verdicts.to_vec();
         self.given = 0;
+    }
+
+    /// Whether the listing of each step is kept, which takes time.
+    pub fn watch(&mut self, watched: bool) {
+        self.watched = watched;
     }
 
     /// How many of the verdicts laid down have been given out.
@@ -111,8 +118,10 @@ impl Relation {
 impl Relation {
     /// A step lists its children.
     pub fn list_children(&mut self, children: &[Block], queue: &BlockQueue) {
-        self.listed = children.to_vec();
-        self.bytes_left = queue.byte_count();
+        if self.watched {
+            self.listed = children.to_vec();
+            self.bytes_left = queue.byte_count();
+        }
     }
 
     /// The next child's turn.

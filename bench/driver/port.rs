@@ -1,0 +1,89 @@
+//! The port behind its C interface, with the memory that it is lent.
+
+#[path = "../../compare/driver/abi.rs"]
+#[allow(dead_code)]
+pub mod abi;
+#[path = "../../compare/driver/calls.rs"]
+#[allow(dead_code)]
+mod calls;
+
+use calls::*;
+use oracle::oracle::Setup;
+
+fn ranges(setup: &Setup) -> abi::Ranges {
+    let [m, n, theta, t] = setup.parameters.map(|(lower, upper)| abi::Interval { lower, upper });
+    abi::Ranges { m, n, theta, t }
+}
+
+/// The lent buffers and the record.
+#[derive(Clone)]
+pub struct Port {
+    pub state: abi::State,
+    pub ring: Vec<u8>,
+    pub cells: Vec<u64>,
+}
+
+impl Port {
+    /// Buffers of zeros that no one has touched yet, as the original's are when it is set up.
+    pub fn lent(setup: &Setup, ring: usize) -> Port {
+        let pixels = setup.width as usize * setup.height as usize;
+        Port { state: abi::State::default(), ring: vec![0; ring], cells: vec![0; pixels] }
+    }
+
+    pub fn least_ring(setup: &Setup) -> abi::Number {
+        unsafe { smyrilox_least_ring(setup.width, setup.height, setup.set, ranges(setup)) }
+    }
+
+    pub fn setup(&mut self, setup: &Setup) {
+        let ranges = ranges(setup);
+        let (ring, ring_len, cells, cells_len) = self.memory();
+        let told =
+            unsafe { smyrilox_setup(setup.width, setup.height, setup.set, ranges, ring, ring_len, cells, cells_len) };
+        assert!(told.refusal == 0, "setup refused by {}", told.refusal);
+        self.state = told.state;
+    }
+
+    pub fn made(setup: &Setup, ring: usize) -> Port {
+        let mut made = Port::lent(setup, ring);
+        made.setup(setup);
+        made
+    }
+
+    fn memory(&mut self) -> (*mut u8, usize, *mut u64, usize) {
+        (self.ring.as_mut_ptr(), self.ring.len(), self.cells.as_mut_ptr(), self.cells.len())
+    }
+
+    pub fn children(&self) -> abi::Listed {
+        unsafe { smyrilox_children(self.state, self.ring.as_ptr(), self.ring.len()) }
+    }
+
+    pub fn step(&mut self, verdicts: &[u8]) -> abi::Stepped {
+        let (ring, ring_len, cells, cells_len) = self.memory();
+        let (at, count) = (verdicts.as_ptr(), verdicts.len());
+        let told = unsafe { smyrilox_step(self.state, ring, ring_len, cells, cells_len, at, count) };
+        self.state = told.state;
+        told
+    }
+
+    pub fn run(&mut self, tape: &[u8], steps: u64) -> abi::Ran {
+        let (ring, ring_len, cells, cells_len) = self.memory();
+        let (at, count) = (tape.as_ptr(), tape.len());
+        let told = unsafe { smyrilox_run(self.state, ring, ring_len, cells, cells_len, at, count, steps as u32) };
+        self.state = told.state;
+        told
+    }
+
+    pub fn picture(&self, bytes: &mut [u8]) -> u64 {
+        let (cells, count) = (self.cells.as_ptr(), self.cells.len());
+        unsafe { smyrilox_picture(self.state, cells, count, bytes.as_mut_ptr(), bytes.len()) }
+    }
+
+    pub fn counts(&self) -> abi::Counted {
+        unsafe { smyrilox_counts(self.state, self.cells.as_ptr(), self.cells.len()) }
+    }
+
+    /// The queue's bytes in order.
+    pub fn queue_bytes(&self) -> impl Iterator<Item = u8> + '_ {
+        (0..self.state.used).map(|i| self.ring[(self.state.head + i) % self.ring.len()])
+    }
+}

@@ -1,0 +1,104 @@
+//! The pictures and the verdicts that both engines are given.
+
+use crate::port::Port;
+use oracle::oracle::Setup;
+
+const LINE: (f64, f64) = (f64::NEG_INFINITY, f64::INFINITY);
+const XY: u8 = 48;
+const UNDECIDED: u8 = 0x40;
+
+/// A setup, and a tape for so many steps.
+pub struct Work {
+    pub name: String,
+    pub setup: Setup,
+    pub ring: usize,
+    pub tape: Vec<u8>,
+    pub steps: u64,
+}
+
+/// Numbers that only look like chance (xorshift64*).
+pub struct Chance(u64);
+
+impl Chance {
+    pub fn new(seed: u64) -> Chance {
+        Chance(seed.wrapping_mul(0x9e3779b97f4a7c15) | 1)
+    }
+
+    pub fn below(&mut self, n: u64) -> u64 {
+        self.0 ^= self.0 >> 12;
+        self.0 ^= self.0 << 25;
+        self.0 ^= self.0 >> 27;
+        (self.0.wrapping_mul(0x2545f4914f6cdd1d) >> 33) % n
+    }
+
+    /// One verdict in three is false or true, the others are undecided.
+    fn third(&mut self) -> u8 {
+        [UNDECIDED, UNDECIDED, UNDECIDED, UNDECIDED, 0x00, 0x80][self.below(6) as usize]
+    }
+}
+
+pub fn square(side: u32) -> Setup {
+    Setup { width: side, height: side, set: XY, parameters: [LINE; 4] }
+}
+
+/// Every block undecided, until the pixels are queued. The side is a power of two.
+pub fn to_the_pixels(side: u32) -> Work {
+    let steps = (side as u64 * side as u64 - 1) / 3;
+    let ring = 16 * side as usize * side as usize;
+    Work {
+        name: format!("{side} by {side}, undecided down to the pixels"),
+        setup: square(side),
+        ring,
+        tape: vec![UNDECIDED; 4 * steps as usize],
+        steps,
+    }
+}
+
+/// A tape made by playing: `verdict` is asked with each child's level and place, until it says that it is over.
+fn played(name: String, setup: Setup, ring: usize, mut verdict: impl FnMut(i32, usize) -> Option<u8>) -> Work {
+    let mut port = Port::made(&setup, ring);
+    let (mut tape, mut steps) = (vec![], 0);
+    while port.state.taken < port.state.queued {
+        let listed = port.children();
+        let level = listed.at[0].x.level;
+        let verdicts: Option<Vec<u8>> = (0..listed.count).map(|place| verdict(level, place)).collect();
+        let Some(verdicts) = verdicts else { break };
+        let told = port.step(&verdicts);
+        assert!(told.refusal == 0, "{name}: step refused by {}", told.refusal);
+        tape.extend(verdicts);
+        steps += 1;
+    }
+    Work { name, setup, ring, tape, steps }
+}
+
+/// The same with a third of the blocks answered.
+pub fn third_answered(side: u32) -> Work {
+    let mut chance = Chance::new(1);
+    let name = format!("{side} by {side}, a third of the blocks answered");
+    let ring = 16 * side as usize * side as usize;
+    played(name, square(side), ring, |level, _| (level >= 0).then(|| chance.third()))
+}
+
+/// Down to the lowest level: from the pixels on one quarter of each block stays undecided.
+pub fn to_the_floor(side: u32) -> Work {
+    let name = format!("{side} by {side} down to the floor");
+    let ring = 64 * side as usize * side as usize;
+    played(name, square(side), ring, |level, place| Some(if level >= 0 || place == 0 { UNDECIDED } else { 0 }))
+}
+
+/// x, y, an integer and a real parameter, a third of the blocks false. What is true of a block is true of all its
+/// pixels, whatever the parameters, so only small blocks are, and few.
+pub fn with_parameters(side: u32, steps: u64) -> Work {
+    let mut chance = Chance::new(2);
+    let mut left = 4 * steps;
+    let setup = Setup { width: side, height: side, set: XY | 8 | 1, parameters: [(0.0, 7.0), LINE, LINE, (-1.0, 1.0)] };
+    let name = format!("{side} by {side} with m in [0,7] and t in [-1,1]");
+    played(name, setup, 64 << 20, |level, _| {
+        left = left.checked_sub(1)?;
+        Some(match chance.below(99) {
+            0 if level < 3 => 0x80,
+            0..33 => 0x00,
+            _ => UNDECIDED,
+        })
+    })
+}

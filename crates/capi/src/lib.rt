@@ -1,0 +1,8 @@
+// The engine and its leaves for programs in other languages: functions with C's calling convention over records by value and lent buffers.
+// Nothing is decided here. An enum cannot cross, so every answer is a record that begins with its refusal, 0 or document 01's number,
+// and a coordinate crosses with document 01's signed level. include/smyrilox.h says the same to a reader of C.
+pub mod engine;
+pub mod leaf;
+pub mod plain;
+mod told;
+mod told_leaf;
