@@ -1,0 +1,180 @@
+-- What a sheet prints, once it is taken: `refused 1`, `refused 3`, or the chart of its run. Neither does setup find the cells or the ring short, nor are the run
+-- and its counts refused. FOR READERS: `Prints` and `taken-prints`, at the end. Assumes nothing.
+use mathlib.Core.Path.{_≡_, refl, sym}
+use mathlib.Core.Bool.{Bool, true, false, cond, not, _&&_, true≢false}
+use mathlib.Core.List.{List, [], _∷_}
+use Prim.Native.Nat.{ℕ, _+_, _*_, _≤_}
+use native.Mathlib.Omega.{arith}
+use lib.Dec.{leb, eqb}
+use lib.Ieee.{binary64, fits}
+use lib.Ieee.Bits.{ofBits-fits}
+use lib.ListN.{length, drop, length-append, length-replicate}
+use borrow.Author.Tests.{le-leb, ltb-false, not-true}
+use Rattle.base.proofs.Test.{cases, and-left, and-right, by-test}
+use Rattle.refusal.specs.declared.Refusal.{Refusal}
+use Rattle.refusal.specs.declared.Refusal.the-variants as R
+use Rattle.refusal.specs.Number.{number}
+use Rattle.interval.specs.Bounds.{InFormat}
+use Rattle.queue.specs.declared.Block.{Block}
+use Rattle.queue.specs.declared.Last.{Last}
+use Rattle.queue.specs.declared.directions.Direction.{Direction}
+use Rattle.queue.specs.declared.directions.Direction.the-variants as D
+use Rattle.queue.specs.Directions.{inUse}
+use Rattle.queue.specs.Block.{wholeLine, startingLast, remembered}
+use Rattle.queue.specs.Code.{encode, canQueue, indicesKnown}
+use Rattle.queue.specs.Queue.{queueCodes}
+use Rattle.queue.proofs.QueueLaws.{Every}
+use Rattle.queue.proofs.QueueableLaws.{encode-few}
+use Rattle.queue.proofs.RoundTrip.{CanQueue, Known}
+use Rattle.queue.proofs.KeptLaws.{known-after, known-start}
+use Rattle.decide.specs.declared.Picture.{Picture}
+use Rattle.decide.specs.Damage.{legalSide}
+use Rattle.implicit.specs.declared.state.Ranges.{Ranges}
+use Rattle.implicit.specs.declared.state.Started.{Started}
+use Rattle.implicit.specs.declared.state.Started.the-variants as S
+use Rattle.implicit.specs.declared.state.Counts.{Counts}
+use Rattle.implicit.specs.declared.state.Counted.the-variants as C
+use Rattle.implicit.specs.Record.{pixelCount, soundRecord}
+use Rattle.implicit.specs.Setup.{pictureOf, rangesLegal, firstBlocks, firstBytes, setupRefusal, startRecord, startedAnswer, ringBegun, cellsBegun}
+use Rattle.implicit.specs.Step.{World, worldOf}
+use Rattle.implicit.specs.Run.{RunEnd, hasRun, runFrom, runOf}
+use Rattle.implicit.specs.View.{cellsFine, countsOf, countsAnswer}
+use Rattle.implicit.proofs.SetupLawsFirst.{every-sub}
+use Rattle.implicit.proofs.SetupLawsBlocks.{RangesHeld, FirstBlock, first-blocks, first-count, first-can}
+use Rattle.implicit.proofs.SetupLawsWriting.{can-code}
+use Rattle.promises.specs.Steps.{Asked, BegunAs}
+use Rattle.promises.proofs.Linked.{begun-reached, steps-reached}
+use Rattle.promises.proofs.Promises.{never-damaged, run-reaches}
+use Rattle.sheet.specs.Layout.{numberIn, sheetSet, zeroBits, placesIn, boundsIn, rangeIn, rangesIn, orderIn, tooLarge, takenSheet}
+use Rattle.sheet.specs.Text.{chartText, refusedText}
+use Rattle.sheet.specs.Printed.{freshRing, freshCells, ranText, startedText, orderText, textOf}
+
+-- A SHEET'S RANGES ARE OF f64s
+
+bounds-held : (s : List ℕ) (at : ℕ) → InFormat (boundsIn s at)
+unfolding boundsIn
+bounds-held s at = (ofBits-fits binary64 (numberIn s at 8), ofBits-fits binary64 (numberIn s (at + 8) 8))
+
+line-held : InFormat wholeLine
+unfolding fits
+line-held = (tt, tt)
+
+range-held : (s : List ℕ) (set : ℕ) (d : Direction) (at : ℕ) → InFormat (rangeIn s set d at)
+unfolding rangeIn
+range-held s set d at = by-test InFormat (inUse set d) (boundsIn s at) wholeLine (λ _. bounds-held s at) (λ _. line-held)
+
+ranges-held : (s : List ℕ) (set : ℕ) → RangesHeld (rangesIn s set)
+unfolding rangesIn
+ranges-held s set = (range-held s set D.M 9, range-held s set D.N (placesIn set .n), range-held s set D.Theta (placesIn set .theta), range-held s set D.T (placesIn set .t))
+
+-- CELLS AND RING ARE ENOUGH FOR THE SETUP
+
+codes-few : (set : ℕ) (last : Last) (bs : List Block) → Known last → Every (CanQueue set) bs → length (queueCodes set last bs) ≤ 83 * length bs
+unfolding queueCodes
+codes-few set last [] k e = omega arith
+codes-few set last (b ∷ bs) k e =
+    let c = can-code set last b k (e .0) in
+    let f = encode-few set last b (and-left (canQueue set b) (indicesKnown last) c) (and-right (canQueue set b) (indicesKnown last) c) in
+    let r = codes-few set (remembered b) bs (known-after set b (e .0)) (e .1) in
+    omega (arith, f, r, length-append (encode set last b) (queueCodes set (remembered b) bs))
+
+-- 81 blocks of 83 bytes at most
+first-few : (p : Picture) (r : Ranges) → RangesHeld r → rangesLegal (p .set) r ≡ true → length (firstBytes p r) ≤ 6723
+unfolding firstBytes
+first-few p r held ok =
+    let n = first-count p r held ok in
+    let f = codes-few (p .set) startingLast (firstBlocks p r) known-start (every-sub (FirstBlock p) (CanQueue (p .set)) (first-can p) (firstBlocks p r) (first-blocks p r held ok)) in
+    omega (arith, f, n .1)
+
+few-pixels : (s : List ℕ) → takenSheet s ≡ true → legalSide (numberIn s 0 2) && legalSide (numberIn s 2 2) ≡ true → numberIn s 0 2 * numberIn s 2 2 ≤ 4096
+unfolding takenSheet
+few-pixels s e h =
+    let w = numberIn s 0 2 in
+    let y = numberIn s 2 2 in
+    let a = leb (placesIn (sheetSet s) .tape) (length s) && eqb (zeroBits s) 0 && leb (length s) 16384 in
+    let n : tooLarge w y ≡ false = not-true (tooLarge w y) (and-right a (not (tooLarge w y)) e) in
+    ltb-false 4096 (w * y) (rw h at n)
+
+-- NEITHER THE RUN NOR ITS COUNTS ARE REFUSED
+
+module _ (a : Asked) {w : World} (z : BegunAs a w) (budget : ℕ) (tape : List ℕ) where
+  run-begins : runOf budget w tape ≡ hasRun (runFrom budget w tape)
+  unfolding runOf
+  run-begins =
+      let k = begun-reached a w z .keeps in
+      rw (k .sound-record, le-leb (pixelCount (w .state .picture)) (length (w .cells)) (k .enough))
+
+  counts-told : (e : RunEnd) → runOf budget w tape ≡ hasRun e → countsAnswer (e .world .state) (e .world .cells) ≡ C.Of (countsOf (e .world .state) (e .world .cells))
+  unfolding countsAnswer
+  counts-told e h =
+      let r = run-reaches budget w tape e h .0 in
+      let s = e .world .state in
+      let cells = e .world .cells in
+      let enough = steps-reached (a .picture) (begun-reached a w z) r .keeps .enough in
+      go (soundRecord (s .len) s) (leb (pixelCount (s .picture)) (length cells)) (cellsFine s cells) (countsOf s cells)
+      (le-leb (pixelCount (s .picture)) (length cells) enough) (never-damaged a z r .counts)
+    where
+      go : (t u v : Bool) (n : Counts) → u ≡ true
+          → (let c = cond t (cond u (cond v (C.Of n) (C.Refused R.Damaged)) (C.Refused R.Cells)) (C.Refused R.Damaged) in
+          ((why : Refusal) → c ≡ C.Refused why → ¬ (number why ≡ 8)) → c ≡ C.Of n)
+      go true true true n f k = refl
+      go true true false n f k = absurd (k R.Damaged refl refl)
+      go t false v n f k = absurd (true≢false (sym f))
+      go false true v n f k = absurd (k R.Damaged refl refl)
+
+-- WHAT IS PRINTED
+
+-- what the setup of a sheet is called with, on this ring and these cells
+abbrev pub askedIn : List ℕ → List ℕ → List ℕ → Asked
+askedIn s ring cells = record { picture = pictureOf (orderIn s .width) (orderIn s .height) (orderIn s .set); ranges = orderIn s .ranges; ring = ring; cells = cells }
+
+-- what it answers
+abbrev pub answerTo : Asked → Started
+answerTo a = startedAnswer (a .picture) (a .ranges) (length (a .ring)) (length (a .cells))
+
+-- the record, ring and cells that it leaves if it is accepted
+abbrev pub begunBy : Asked → World
+begunBy a = worldOf (startRecord (a .picture) (a .ranges) (length (a .ring))) (ringBegun (a .picture) (a .ranges) (a .ring) (a .cells)) (cellsBegun (a .picture) (a .ranges) (a .ring) (a .cells))
+
+-- the chart of a run's end
+abbrev pub chartAt : RunEnd → List ℕ
+chartAt e = chartText (e .world .state) (e .world .cells) (e .steps) (e .evaluations) (e .ending) (countsOf (e .world .state) (e .world .cells))
+
+-- the three texts of a sheet whose setup is called with `a`: a refusal by 1 or by 3, which is the setup's, or, the setup accepted, the chart of the run
+-- from what it leaves, by the sheet's budget and tape
+pub data Prints (s : List ℕ) (a : Asked) : List ℕ → Type 0 where
+  prints-1 : answerTo a ≡ S.Refused R.Side → Prints s a (refusedText R.Side)
+  prints-3 : answerTo a ≡ S.Refused R.Parameter → Prints s a (refusedText R.Parameter)
+  prints-chart : BegunAs a (begunBy a) → (e : RunEnd) → runOf (orderIn s .budget) (begunBy a) (drop (orderIn s .tape) s) ≡ hasRun e → Prints s a (chartAt e)
+
+-- whatever the ring and the cells held
+module _ (s ring cells : List ℕ) (taken : takenSheet s ≡ true) (nr : length ring ≡ 16384) (nc : length cells ≡ 4096) where
+  abbrev a : Asked
+  a = askedIn s ring cells
+
+  -- an accepted setup
+  run-prints : answerTo a ≡ S.Ready (begunBy a .state) → Prints s a (ranText (runOf (orderIn s .budget) (begunBy a) (drop (orderIn s .tape) s)))
+  unfolding orderIn
+  run-prints f =
+      let z : BegunAs a (begunBy a) = record { ready = f; ring = refl; cells = refl; held = ranges-held s (sheetSet s) } in
+      let b = run-begins a z (orderIn s .budget) (drop (orderIn s .tape) s) in
+      rw (b, counts-told a z (orderIn s .budget) (drop (orderIn s .tape) s) _ b) (prints-chart z _ b)
+
+  started-prints : Prints s a (startedText (orderIn s) (drop (orderIn s .tape) s) (begunBy a .ring) (begunBy a .cells) (answerTo a))
+  unfolding orderIn startedAnswer setupRefusal
+  started-prints =
+      let p = a .picture in
+      let r = a .ranges in
+      cases (legalSide (p .width) && legalSide (p .height)) (λ h.
+      let c₁ = le-leb (pixelCount p) (length cells) (omega (arith, few-pixels s taken h, nc)) in
+      cases (rangesLegal (p .set) r) (λ ok.
+      let c₂ = le-leb (length (firstBytes p r)) (length ring) (omega (arith, first-few p r (ranges-held s (sheetSet s)) ok, nr)) in
+      let f : answerTo a ≡ S.Ready (begunBy a .state) = rw (h, c₁, ok, c₂) in
+      rw f (run-prints f))
+      (λ no. (let f : answerTo a ≡ S.Refused R.Parameter = rw (h, c₁, no) in rw f (prints-3 f))))
+      (λ h. (let f : answerTo a ≡ S.Refused R.Side = rw h in rw f (prints-1 f)))
+
+-- A SHEET THAT IS TAKEN prints one of the three, on a fresh ring and fresh cells
+pub taken-prints : (s : List ℕ) → takenSheet s ≡ true → Prints s (askedIn s freshRing freshCells) (textOf s)
+unfolding textOf orderText
+taken-prints s e = rw e (started-prints s freshRing freshCells e (length-replicate {A = ℕ} 16384 0) (length-replicate {A = ℕ} 4096 0))

@@ -1,0 +1,87 @@
+-- Document 01, "Program and values": the three parts of the printed text, as ASCII bytes.
+--
+--   size 2 1 steps 1 evals 2 done
+--   true 1 false 1 uncertain 0 givenup 0 queued 0 share 1000
+--   #.
+use mathlib.Core.Bool.{cond}
+use mathlib.Core.List.{List, [], _∷_, _++_, map}
+use Prim.Native.Nat.{ℕ, zero, suc}
+use lib.Dec.{eqb}
+use lib.ListN.{take, drop}
+use Rattle.refusal.specs.declared.Refusal.{Refusal}
+use Rattle.refusal.specs.Number.{number}
+use Rattle.image.specs.Cell.{reading, characterOf}
+use Rattle.implicit.specs.declared.state.State.{State}
+use Rattle.implicit.specs.declared.state.Ending.{Ending}
+use Rattle.implicit.specs.declared.state.Ending.the-variants as E
+use Rattle.implicit.specs.declared.state.Counts.{Counts}
+use Rattle.implicit.specs.Record.{pixelCells}
+use Rattle.sheet.specs.Writing.{decimalText}
+
+-- a word, then a number
+abbrev pub labelled : List ℕ → ℕ → List ℕ
+labelled word n = word ++ decimalText n
+
+-- the end of a line
+abbrev pub lineEnd : List ℕ
+lineEnd = 10 ∷ []
+
+-- a space and how the run ended: " done", " limit", " more", or " stop " and the refusal's number
+abbrev pub endingText : Ending → List ℕ
+endingText E.Done = 32 ∷ 100 ∷ 111 ∷ 110 ∷ 101 ∷ []
+endingText E.Limit = 32 ∷ 108 ∷ 105 ∷ 109 ∷ 105 ∷ 116 ∷ []
+endingText E.More = 32 ∷ 109 ∷ 111 ∷ 114 ∷ 101 ∷ []
+endingText (E.Stop why) = labelled (32 ∷ 115 ∷ 116 ∷ 111 ∷ 112 ∷ 32 ∷ []) (number why)
+
+-- "size, finished steps, evaluations, ending": "size ", " ", " steps ", " evals "
+unfoldable pub runLine : ℕ → ℕ → ℕ → ℕ → Ending → List ℕ
+runLine width height steps evals ending =
+    labelled (115 ∷ 105 ∷ 122 ∷ 101 ∷ 32 ∷ []) width
+    ++ labelled (32 ∷ []) height
+    ++ labelled (32 ∷ 115 ∷ 116 ∷ 101 ∷ 112 ∷ 115 ∷ 32 ∷ []) steps
+    ++ labelled (32 ∷ 101 ∷ 118 ∷ 97 ∷ 108 ∷ 115 ∷ 32 ∷ []) evals
+    ++ endingText ending
+    ++ lineEnd
+
+-- "pixels by reading": "true ", " false ", " uncertain "
+unfoldable pub readingCounts : Counts → List ℕ
+readingCounts n =
+    labelled (116 ∷ 114 ∷ 117 ∷ 101 ∷ 32 ∷ []) (n .trues)
+    ++ labelled (32 ∷ 102 ∷ 97 ∷ 108 ∷ 115 ∷ 101 ∷ 32 ∷ []) (n .falses)
+    ++ labelled (32 ∷ 117 ∷ 110 ∷ 99 ∷ 101 ∷ 114 ∷ 116 ∷ 97 ∷ 105 ∷ 110 ∷ 32 ∷ []) (n .uncertain)
+
+-- "given-up cells (also counted as uncertain), queued blocks, settled pixels in thousandths": " givenup ", " queued ", " share "
+unfoldable pub otherCounts : Counts → List ℕ
+otherCounts n =
+    labelled (32 ∷ 103 ∷ 105 ∷ 118 ∷ 101 ∷ 110 ∷ 117 ∷ 112 ∷ 32 ∷ []) (n .givenup)
+    ++ labelled (32 ∷ 113 ∷ 117 ∷ 101 ∷ 117 ∷ 101 ∷ 100 ∷ 32 ∷ []) (n .queued)
+    ++ labelled (32 ∷ 115 ∷ 104 ∷ 97 ∷ 114 ∷ 101 ∷ 32 ∷ []) (n .share)
+    ++ lineEnd
+
+-- the line of the counts
+abbrev pub countLine : Counts → List ℕ
+countLine n = readingCounts n ++ otherCounts n
+
+-- characters cut into rows, each with its line end
+unfoldable pub rowsOf : ℕ → ℕ → List ℕ → List ℕ
+rowsOf width zero l = []
+rowsOf width (suc height) l = take width l ++ lineEnd ++ rowsOf width height (drop width l)
+
+-- "# True, . False, ? Uncertain", for each pixel, rows from the top
+unfoldable pub characters : State → List ℕ → List ℕ
+characters s cells = map (λ c. characterOf (reading (s .taken) c)) (pixelCells (s .picture) cells)
+
+-- the character of a picture's byte: that of the reading whose byte it is
+abbrev pub symbolOf : ℕ → ℕ
+symbolOf b = cond (eqb b 0) 46 (cond (eqb b 1) 63 35)
+
+-- the whole text of a run that left this record and these cells
+abbrev pub chartText : State → List ℕ → ℕ → ℕ → Ending → Counts → List ℕ
+chartText s cells steps evals ending n =
+    runLine (s .picture .width) (s .picture .height) steps evals ending
+    ++ countLine n
+    ++ rowsOf (s .picture .width) (s .picture .height) (characters s cells)
+
+-- "prints only refused and its number": "refused "
+unfoldable pub refusedText : Refusal → List ℕ
+refusedText why = labelled (114 ∷ 101 ∷ 102 ∷ 117 ∷ 115 ∷ 101 ∷ 100 ∷ 32 ∷ []) (number why) ++ lineEnd
