@@ -1,0 +1,186 @@
+//! What crosses to the library, in the order of its fields: `include/smyrilox.h` says the same in C.
+
+/// An interval; infinite ends are allowed.
+#[repr(C)]
+#[derive(Clone, Copy, Debug, Default, PartialEq)]
+pub struct Interval {
+    pub lower: f64,
+    pub upper: f64,
+}
+
+impl Interval {
+    /// From minus infinity to infinity.
+    pub const WHOLE: Interval = Interval { lower: f64::NEG_INFINITY, upper: f64::INFINITY };
+
+    pub const fn new(lower: f64, upper: f64) -> Interval {
+        Interval { lower, upper }
+    }
+}
+
+#[repr(C)]
+#[derive(Clone, Copy, Debug, Default, PartialEq)]
+pub struct Ranges {
+    pub m: Interval,
+    pub n: Interval,
+    pub theta: Interval,
+    pub t: Interval,
+}
+
+#[repr(C)]
+#[derive(Clone, Copy, Debug, Default, PartialEq)]
+pub struct Coordinate {
+    pub index: u64,
+    pub level: i32,
+}
+
+#[repr(C)]
+#[derive(Clone, Copy, Debug, Default, PartialEq)]
+pub struct Child {
+    pub x: Coordinate,
+    pub y: Coordinate,
+    pub m: Interval,
+    pub n: Interval,
+    pub theta: Interval,
+    pub t: Interval,
+}
+
+#[repr(C)]
+#[derive(Clone, Copy, Debug, Default, PartialEq)]
+pub struct Last {
+    pub x: u64,
+    pub y: u64,
+    pub m: Interval,
+    pub n: Interval,
+    pub theta: Interval,
+    pub t: Interval,
+}
+
+#[repr(C)]
+#[derive(Clone, Copy, Debug, Default, PartialEq)]
+pub struct Chosen {
+    pub width: u32,
+    pub height: u32,
+    pub set: u8,
+}
+
+#[repr(C)]
+#[derive(Clone, Copy, Debug, Default, PartialEq)]
+pub struct State {
+    pub picture: Chosen,
+    pub taken: u64,
+    pub queued: u64,
+    pub len: usize,
+    pub head: usize,
+    pub used: usize,
+    pub front: Last,
+    pub back: Last,
+}
+
+#[repr(C)]
+pub struct Started {
+    pub refusal: u64,
+    pub state: State,
+}
+
+#[repr(C)]
+pub struct Listed {
+    pub refusal: u64,
+    pub count: usize,
+    pub at: [Child; 4],
+}
+
+#[repr(C)]
+pub struct Stepped {
+    pub refusal: u64,
+    pub evaluations: u64,
+    pub tape: usize,
+    pub state: State,
+}
+
+#[repr(C)]
+pub struct Ran {
+    pub refusal: u64,
+    pub ending: u64,
+    pub stop: u64,
+    pub steps: u64,
+    pub evaluations: u64,
+    pub tape: usize,
+    pub state: State,
+}
+
+#[repr(C)]
+pub struct Counted {
+    pub refusal: u64,
+    pub counts: Tally,
+}
+
+#[repr(C)]
+pub struct Tally {
+    pub trues: u64,
+    pub falses: u64,
+    pub uncertain: u64,
+    pub givenup: u64,
+    pub queued: u64,
+    pub share: u64,
+}
+
+/// A number that is asked for, or the refusal.
+#[repr(C)]
+pub struct Number {
+    pub refusal: u64,
+    pub value: u64,
+}
+
+#[repr(C)]
+pub struct Point {
+    pub refusal: u64,
+    pub value: f64,
+}
+
+#[repr(C)]
+pub struct Pieces {
+    pub refusal: u64,
+    pub count: usize,
+    pub at: [Interval; 3],
+}
+
+extern "C" {
+    pub fn smyrilox_cells(width: u32, height: u32) -> Number;
+    pub fn smyrilox_least_ring(width: u32, height: u32, set: u8, ranges: Ranges) -> Number;
+    pub fn smyrilox_setup(
+        width: u32,
+        height: u32,
+        set: u8,
+        ranges: Ranges,
+        ring: *mut u8,
+        ring_len: usize,
+        cells: *mut u64,
+        cells_len: usize,
+    ) -> Started;
+    pub fn smyrilox_children(state: State, ring: *const u8, ring_len: usize) -> Listed;
+    pub fn smyrilox_step(
+        state: State,
+        ring: *mut u8,
+        ring_len: usize,
+        cells: *mut u64,
+        cells_len: usize,
+        verdicts: *const u8,
+        verdicts_len: usize,
+    ) -> Stepped;
+    pub fn smyrilox_run(
+        state: State,
+        ring: *mut u8,
+        ring_len: usize,
+        cells: *mut u64,
+        cells_len: usize,
+        tape: *const u8,
+        tape_len: usize,
+        budget: u32,
+    ) -> Ran;
+    pub fn smyrilox_picture(state: State, cells: *const u64, cells_len: usize, picture: *mut u8, picture_len: usize) -> u64;
+    pub fn smyrilox_counts(state: State, cells: *const u64, cells_len: usize) -> Counted;
+    pub fn smyrilox_midpoint(x: Interval) -> Point;
+    pub fn smyrilox_simple_fraction(x: Interval) -> Point;
+    pub fn smyrilox_first_cut(x: Interval, integer: bool) -> Pieces;
+    pub fn smyrilox_later_cut(x: Interval, integer: bool) -> Pieces;
+}

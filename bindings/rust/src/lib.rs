@@ -1,0 +1,52 @@
+//! A safe interface to the proved refinement of implicit graphs.
+//!
+//! A [`Chart`] holds what belongs together: the record, the ring with the queued blocks, and a cell for each pixel. Nothing else can write them while it lives, so what is
+//! promised of the engine ("white means no": `docs/WHITE.md`) holds by construction of every chart that was begun here; one that was loaded is as good as the bytes it came from. An evaluator is asked about blocks and answers with [`Verdict`]s:
+//!
+//! ```
+//! use smyrilox::{Chart, Ending, Reading, Setup, Variables, Verdict};
+//!
+//! // the right half of a picture of two pixels satisfies the relation
+//! let setup = Setup::new(2, 1, Variables::X | Variables::Y);
+//! let mut chart = Chart::new(&setup, 1024)?;
+//! while !chart.is_finished() {
+//!     chart.step_with(|block| if block.x.span().0 >= 1.0 { Verdict::YES } else { Verdict::NO })?;
+//! }
+//! let picture = chart.picture()?;
+//! assert_eq!(picture.reading(0, 0), Reading::False);
+//! assert_eq!(picture.reading(1, 0), Reading::True);
+//! # Ok::<(), smyrilox::Refusal>(())
+//! ```
+//!
+//! A chart's ring gets no second setup while it is in use, and nobody else writes it:
+//!
+//! ```compile_fail,E0499
+//! use smyrilox::{Chart, Setup, Variables};
+//!
+//! let setup = Setup::new(2, 1, Variables::X | Variables::Y);
+//! let (mut ring, mut cells) = ([0; 64], [0; 2]);
+//! let first = Chart::lent(&setup, &mut ring, &mut cells);
+//! let second = Chart::lent(&setup, &mut ring, &mut cells);
+//! drop(first);
+//! ```
+
+mod block;
+mod buffers;
+mod chart;
+mod ffi;
+pub mod leaves;
+mod picture;
+mod refusal;
+mod saved;
+mod setup;
+mod verdict;
+
+pub use block::{Block, Children, Coordinate};
+pub use buffers::{Buffers, Lent, Owned};
+pub use chart::{Chart, Counts, Ending, Run, Step};
+pub use ffi::Interval;
+pub use picture::{Picture, Reading};
+pub use refusal::Refusal;
+pub use saved::NotLoaded;
+pub use setup::{Setup, Variables};
+pub use verdict::Verdict;
