@@ -52,7 +52,7 @@ def surplus(a, c):
     meets = a[1] > 240 and a[0] < 300 and c[1] > 9 and c[0] < 11
     wear = (0.7, 1.3) if meets else (1.0, 1.0)
     cleared = mul(mul(c, sub((42.0, 42.0), c)), wear)
-    return sub(cleared, mul(a, add((1.0, 1.0), mul(a, (1 / 1600, 1 / 1600)))))
+    return sub(cleared, mul(a, add((1.0, 1.0), mul(a, out(1 / 1600, 1 / 1600)))))
 
 
 # ---- verdicts

@@ -109,6 +109,13 @@ def lengths():
     return out + [base + bytes(n - len(base)) for n in (16383, 16384, 16385, 16386)]
 
 
+def edges():
+    """A share that lies half way between two thousandths; budgets of one bit; one byte too many behind several heads."""
+    out = [sheet(4, 4, 48, 2, tape=b"\x40\x40\x40\x40\x00\x40\x40\x40"), sheet(4, 4, 48, 2, tape=b"\x40\x40\x40\x40\x00\x00\x00\x40")]
+    out += [sheet(2, 2, 48, 1 << bit, tape=b"\x80\x00\x80\x00") for bit in range(32)]
+    return out + [s + bytes(n - len(s)) for s in (sheet(2, 1, 48, 5, tape=b"\x80\x00"), sheet(1, 1, 0, 1, tape=b"\x80")) for n in (16384, 16385)]
+
+
 def cut_parameters():
     """Every set of parameters, whole, and short by a byte and by a parameter; a bound's bits may be anything then."""
     out = []
@@ -217,7 +224,7 @@ def main():
     for s, text in known:
         assert model.expected(s) == text, s.hex()
     assert len(known) > 10
-    cases = [s for s, _ in known] + lengths() + cut_parameters() + sides() + intervals() + sets(rng) + chances(rng, 240) + large(rng)
+    cases = [s for s, _ in known] + lengths() + edges() + cut_parameters() + sides() + intervals() + sets(rng) + chances(rng, 240) + large(rng)
     texts = [model.expected(s) for s in cases]
     ends = {}
     for t in texts:
