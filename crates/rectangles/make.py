@@ -52,12 +52,13 @@ def answer(case):
         elif op == FILL or meaning(cells[i]) == "number" and cells[i] >= frm:
             cells[i] = to
     lent = cells[:n]
+    drawn = "".join(str(reading(x, taken)) for x in lent)
     return "\n".join([
         f"{w}x{h} of {n}: columns {left} {right} rows {top} {bottom}",
         f"all true {yes(all(x == TRUE for x in before))}, given up {yes(GIVEN_UP in before)}, damaged {yes(any(meaning(x) == 'damaged' for x in before))}, "
         + ("counts " + " ".join(map(str, tally)) if fits else "counts outside") + (", painted" if painted else ", kept"),
         "".join(f" {x}" for x in lent),
-        "".join(".?#"[reading(x, taken)] for x in lent) + " " + "".join(str(reading(x, taken)) for x in lent)]) + "\n"
+        "".join(".?#"[reading(x, taken)] for x in lent) + " drawn " + drawn + (" drawn " + drawn if n == 1 else " kept 9")]) + "\n"
 
 def cases():
     rnd = random.Random(1788)

@@ -5,3 +5,4 @@ pub mod RangeLaws
 pub mod PaintLaws
 pub mod CountLaws
 pub mod BlockLaws
+pub mod DrawLaws

@@ -55,6 +55,11 @@ meant t op i (n ∷ l) h = ap₂ _∷_ (go (t i)) (meant t op (suc i) l h)
     go true = touched-meaning op n h
     go false = ap meaningOf (code-meaning n)
 
+-- it is done by the two tests
+pub paintable-as : (width height : ℕ) (r : PixelRange) (op : Op) (n : ℕ) (a b : Bool) → pictureReady width height r n ≡ a → nameable op ≡ b → paintable width height r op n ≡ (a && b)
+unfolding paintable
+paintable-as width height r op n a b e f = ap₂ (λ (s t : Bool). s && t) e f
+
 -- their meanings are painted, where it is done
 pub painted-meanings : (width height : ℕ) (r : PixelRange) (op : Op) (l : List ℕ) → paintable width height r op (length l) ≡ true
     → meanings (paintedCells width height r op l) ≡ painted width r op (meanings l)

@@ -107,6 +107,10 @@ byteOf R.False = 0
 byteOf R.Uncertain = 1
 byteOf R.True = 2
 
+-- the byte of a cell's code
+abbrev pub shownByte : ℕ → ℕ → ℕ
+shownByte taken n = byteOf (reading taken (meaningOf n))
+
 -- the characters of a printed row: . ? #
 abbrev pub characterOf : Reading → ℕ
 characterOf R.False = 46

@@ -1,8 +1,9 @@
--- What is done to the cells of a rectangle, looked for in them and counted: document 01, "Picture and step", on the meanings of all lent cells.
+-- What is done to the cells of a rectangle, looked for in them, counted and shown: document 01, "Picture and step", on the meanings of all lent cells.
 -- Cells that the rectangle does not hold keep their value, those beyond the pixels too: no rectangle of a picture holds one of these.
 use mathlib.Core.Bool.{Bool, true, false, cond, _&&_, _||_}
-use mathlib.Core.List.{List, [], _∷_}
+use mathlib.Core.List.{List, [], _∷_, map}
 use Prim.Native.Nat.{ℕ, suc}
+use lib.Dec.{eqb}
 use lib.ListN.{length, getD}
 use Rattle.image.specs.declared.Op.{Op}
 use Rattle.image.specs.declared.Kind.{Kind}
@@ -11,7 +12,7 @@ use Rattle.image.specs.declared.Seen.{Seen}
 use Rattle.image.specs.declared.Seen.the-variants as S
 use Rattle.image.specs.declared.TallyAnswer.{TallyAnswer}
 use Rattle.image.specs.declared.TallyAnswer.the-variants as A
-use Rattle.image.specs.Cell.{Cell, Named, meanings, codes, doneTo, nameable, isMarked, ofKind, tallied}
+use Rattle.image.specs.Cell.{Cell, Named, meanings, codes, doneTo, nameable, isMarked, ofKind, tallied, shownByte}
 use Rattle.image.specs.Range.{cellIndex, holdsCell, pictureReady}
 
 -- each element by its place, counted from i
@@ -73,3 +74,7 @@ allTrueSeen width height r l =
 unfoldable pub tallyAnswer : ℕ → ℕ → PixelRange → ℕ → List ℕ → TallyAnswer
 tallyAnswer width height r taken l =
     cond (pictureReady width height r (length l)) (A.Of (tallied taken (heldCells width r (meanings l)))) A.Outside
+
+-- a picture buffer with a byte for each cell, afterwards: what the cells show; any other is as it was
+unfoldable pub drawnBytes : ℕ → List ℕ → List ℕ → List ℕ
+drawnBytes taken l out = cond (eqb (length l) (length out)) (map (shownByte taken) l) out

@@ -1,15 +1,17 @@
 // The picture's cells: what a cell means and reads, which cells a block covers, and what is done to a rectangle of them.
 // Document 01, "Picture and step": rows from the top, y from the bottom. The numbers that stand for True and given up appear in this crate only.
-// Every function takes any rectangle and any cells: where the rectangle leaves the picture, or the cells are fewer than the pixels, it changes
-// nothing and says so. Cells beyond the pixels are never read or written.
+// What takes a rectangle takes any, and any cells: where the rectangle leaves the picture, or the cells are fewer than the pixels, it changes
+// nothing and says so, and cells beyond the pixels are never read or written. `is_any` and `draw` take no rectangle but all cells that are lent.
 ghost use mathlib.Core.Path.{_≡_};
 ghost use Prim.Native.Nat.{_+_, _-_, _^_, _≤_, _<_, min};
+ghost use lib.Dec.{eqb};
 ghost use lib.ListN.{length};
-ghost use Rattle.image.specs.Cell.{meaningOf, nameable, reading, byteOf, characterOf};
+ghost use Rattle.image.specs.Cell.{meaningOf, meanings, nameable, reading, ofKind, characterOf};
 ghost use Rattle.image.specs.Range.{firstPixel, rectangleOf, wholePicture, pictureReady};
-ghost use Rattle.image.specs.Painting.{paintable, paintedCells, someSeen, allTrueSeen, tallyAnswer};
+ghost use Rattle.image.specs.Painting.{paintable, paintedCells, someOf, someSeen, allTrueSeen, tallyAnswer, drawnBytes};
 
 mod rows;
+mod runs;
 
 use coordinate::Coordinate;
 
@@ -95,17 +97,6 @@ pub fn read_cell(cell: u64, taken: u64) -> Reading
         Reading::Uncertain
     } else {
         Reading::False
-    }
-}
-
-// The byte of a picture buffer for a reading.
-pub fn reading_byte(r: Reading) -> u8
-    ensures { λ b. ⌜ b ≡ byteOf r ⌝ }
-{
-    match r {
-        Reading::False => 0,
-        Reading::Uncertain => 1,
-        Reading::True => 2,
     }
 }
 
@@ -213,7 +204,10 @@ pub fn paint(cells: &mut [u64], width: u32, height: u32, r: PixelRange, op: Op) 
     ensures { λ b. ⌜ b ≡ paintable width height r op (length (now (cells .entry))) ⌝ }
     ensures { λ b. ⌜ now (cells .exit) ≡ paintedCells width height r op (now (cells .entry)) ⌝ }
 {
-    if is_ready(width, height, r, cells.len()) & is_nameable(op) {
+    if !is_ready(width, height, r, cells.len()) {
+        return false;
+    }
+    if is_nameable(op) {
         rows::paint_rows(cells, width as usize, r, op);
         return true;
     }
@@ -254,4 +248,23 @@ pub fn count(cells: &[u64], width: u32, height: u32, r: PixelRange, taken: u64) 
         return TallyAnswer::Of(tally);
     }
     TallyAnswer::Outside
+}
+
+// Whether one of the cells is of a kind.
+pub fn is_any(cells: &[u64], kind: Kind) -> bool
+    ensures { λ b. ⌜ b ≡ someOf (ofKind kind) (meanings (now (cells .entry))) ⌝ }
+{
+    runs::find_in_run(cells, kind)
+}
+
+// Writes the byte of each cell when so many blocks have been taken, if there are as many bytes as cells; answers whether it was done.
+pub fn draw(cells: &[u64], taken: u64, out: &mut [u8]) -> bool
+    ensures { λ b. ⌜ b ≡ eqb (length (now (cells .entry))) (length (now (out .entry))) ⌝ }
+    ensures { λ b. ⌜ now (out .exit) ≡ drawnBytes taken (now (cells .entry)) (now (out .entry)) ⌝ }
+{
+    if cells.len() == out.len() {
+        runs::draw_run(cells, smaller(taken, TRUE), out);
+        return true;
+    }
+    false
 }

@@ -84,7 +84,7 @@ pub(crate) fn find_in_rows(cells: &[u64], width: usize, r: PixelRange, kind: Kin
     false
 }
 
-fn find_in_row(row: &[u64], kind: Kind) -> bool
+pub(crate) fn find_in_row(row: &[u64], kind: Kind) -> bool
     ensures { λ b. ⌜ b ≡ someOf (ofKind kind) (meanings (now (row .entry))) ⌝ }
 {
     for i in 0..row.len() {

@@ -2,7 +2,7 @@
 use mathlib.Core.Path.{_≡_, refl, ap}
 use mathlib.Core.Bool.{Bool, true, false, cond, _&&_}
 use mathlib.Core.List.{List, [], _∷_}
-use Prim.Native.Nat.{ℕ, _+_, _-_, _≤_, _<_}
+use Prim.Native.Nat.{ℕ, _+_, _-_, _%_, _≤_, _<_}
 use native.Mathlib.Omega.{arith}
 use native.Mathlib.Nat.{add-zero}
 use lib.Bits.{bitXor}
@@ -24,6 +24,7 @@ use Rattle.interval.specs.Answers.{fromBits}
 use Rattle.queue.specs.declared.Block.{Block}
 use Rattle.queue.specs.declared.Last.{Last}
 use Rattle.queue.specs.declared.directions.Direction.{Direction}
+use Rattle.queue.specs.declared.directions.Direction.the-variants as D
 use Rattle.queue.specs.declared.read.LevelRead.{LevelRead}
 use Rattle.queue.specs.declared.read.LevelRead.the-variants as L
 use Rattle.queue.specs.declared.read.CoordinateRead.{CoordinateRead}
@@ -33,8 +34,9 @@ use Rattle.queue.specs.declared.read.ParameterRead.the-variants as P
 use Rattle.queue.specs.declared.read.Reading.{Reading}
 use Rattle.queue.specs.declared.read.Reading.the-variants as R
 use Rattle.queue.specs.Directions.{inUse, parameters}
-use Rattle.queue.specs.Block.{wholeLine, isInteger, recalled}
-use Rattle.queue.specs.Decode.{levelOf, levelRead, coordinateWith, coordinateOf, coordinateRead, boundsOf, boundsRead, usedRead, parameterRead, withY, withX, placeRead, withRead, addParameter, addParameters, addDirection, decode, Inside}
+use Rattle.queue.specs.Block.{wholeLine, isInteger}
+use Rattle.queue.specs.Decode.{levelOf, levelRead, coordinateWith, coordinateOf, coordinateRead, boundsOf, boundsRead, usedRead, parameterRead, withPlace, withY, withX, placeRead, withRead, addParameter, addParameters, addDirection, restRead, decode, endsAt, parameterBehind, EndsInside, intervalRead, directionRead, endRead}
+use Rattle.queue.proofs.DirectionLaws.{unused}
 
 -- ---- the answers
 
@@ -77,44 +79,98 @@ module _ (s : List ℕ) (at : ℕ) (integer : Bool) where
     unfolding parameterRead
     parameter-unused used p e f = rw (e, f)
 
--- the parameter along a direction
-module _ (set : ℕ) (last : Last) (s : List ℕ) (d : Direction) where
-  pub along-some : (r : Reading) (b : Block) (count : ℕ) (p : ParameterRead) → r ≡ R.Read b count
-      → p ≡ parameterRead (inUse set d) (isInteger d) (recalled last d) (drop count s) → withRead b d count p ≡ addParameter set last s d r
-  unfolding addParameter
-  along-some r b count p e f = rw (e, f)
+-- the parameter along a direction, behind another
+module _ (set : ℕ) (d : Direction) (last : Interval) (s : List ℕ) (r : ParameterRead) where
+  pub behind-some : (q : Interval) (at : ℕ) (p : ParameterRead) → r ≡ P.Read q at
+      → p ≡ parameterRead (inUse set d) (isInteger d) last (drop at s) → endsAt at p ≡ parameterBehind set d last s r
+  unfolding parameterBehind
+  behind-some q at p e f = rw (e, f)
 
-  pub along-none : (r : Reading) → r ≡ R.Damaged → R.Damaged ≡ addParameter set last s d r
-  unfolding addParameter
-  along-none r e = rw e
+  pub behind-none : r ≡ P.Damaged → P.Damaged ≡ parameterBehind set d last s r
+  unfolding parameterBehind
+  behind-none e = rw e
+
+-- the block made at the end, of one parameter behind the other, is the one to which they were added one after the other
+module _ (set : ℕ) (last : Last) (s : List ℕ) (x y : Coordinate) where
+  abbrev after : List Direction → Interval → Interval → Interval → Direction → ℕ → ParameterRead → Reading
+  after ds m n theta d at p = addDirection s (addParameters set last s ds (withRead (record { x = x; y = y; m = m; n = n; theta = theta; t = wholeLine; dir = 0 }) d at p))
+
+  made-t : (m n theta : Interval) (at : ℕ) (p : ParameterRead) → endRead s x y m n theta (endsAt at p) ≡ after [] m n theta D.T at p
+  unfolding addParameters addDirection
+  made-t m n theta at (P.Read t k) = refl
+  made-t m n theta at P.Damaged = refl
+
+  abbrev behindT : ParameterRead → ParameterRead
+  behindT p = parameterBehind set D.T (last .t) s p
+
+  made-theta : (m n : Interval) (at : ℕ) (p : ParameterRead) → endRead s x y m n (intervalRead (endsAt at p)) (behindT (endsAt at p)) ≡ after (D.T ∷ []) m n wholeLine D.Theta at p
+  unfolding addParameters addParameter addDirection parameterBehind
+  made-theta m n at (P.Read theta k) = made-t m n theta (at + k) (parameterRead (inUse set D.T) false (last .t) (drop (at + k) s))
+  made-theta m n at P.Damaged = refl
+
+  abbrev behindTheta : ParameterRead → ParameterRead
+  behindTheta p = parameterBehind set D.Theta (last .theta) s p
+
+  made-n : (m : Interval) (at : ℕ) (p : ParameterRead)
+      → endRead s x y m (intervalRead (endsAt at p)) (intervalRead (behindTheta (endsAt at p))) (behindT (behindTheta (endsAt at p)))
+      ≡ after (D.Theta ∷ D.T ∷ []) m wholeLine wholeLine D.N at p
+  unfolding addParameters addParameter addDirection parameterBehind
+  made-n m at (P.Read n k) = made-theta m n (at + k) (parameterRead (inUse set D.Theta) true (last .theta) (drop (at + k) s))
+  made-n m at P.Damaged = refl
+
+  abbrev behindN : ParameterRead → ParameterRead
+  behindN p = parameterBehind set D.N (last .n) s p
+
+  made-m : (at : ℕ) (p : ParameterRead)
+      → endRead s x y (intervalRead (endsAt at p)) (intervalRead (behindN (endsAt at p))) (intervalRead (behindTheta (behindN (endsAt at p)))) (behindT (behindTheta (behindN (endsAt at p))))
+      ≡ after (D.N ∷ D.Theta ∷ D.T ∷ []) wholeLine wholeLine wholeLine D.M at p
+  unfolding addParameters addParameter addDirection parameterBehind
+  made-m at (P.Read m k) = made-n m (at + k) (parameterRead (inUse set D.N) true (last .n) (drop (at + k) s))
+  made-m at P.Damaged = refl
+
+  pub made : (at : ℕ) (m n theta t : ParameterRead) → m ≡ parameterBehind set D.M (last .m) s (P.Read wholeLine at) → n ≡ behindN m → theta ≡ behindTheta n → t ≡ behindT theta
+      → endRead s x y (intervalRead m) (intervalRead n) (intervalRead theta) t ≡ restRead set last s (withPlace x y at)
+  unfolding addParameters addParameter parameterBehind
+  made at m n theta t e f g h = rw (h, g, f, e) (made-m at (parameterRead (inUse set D.M) true (last .m) (drop at s)))
+
+  -- where the set has no parameter, the direction follows at once
+  pub made-plain : (at : ℕ) → set % 16 ≡ 0
+      → directionRead s (record { x = x; y = y; m = wholeLine; n = wholeLine; theta = wholeLine; t = wholeLine; dir = 0 }) at ≡ restRead set last s (withPlace x y at)
+  unfolding addParameters addParameter parameterRead
+  made-plain at h = let (m, n, theta, t) = unused set h in simp (m, n, theta, t, add-zero)
 
 -- x and y
-pub place-none : (last : Last) (s : List ℕ) → C.Damaged ≡ coordinateRead (last .x) s → R.Damaged ≡ placeRead last s
-unfolding placeRead withX
-place-none last s e = rw (← e)
+module _ (set : ℕ) (last : Last) (s : List ℕ) where
+  pub place-none : C.Damaged ≡ coordinateRead (last .x) s → R.Damaged ≡ decode set last s
+  unfolding decode placeRead withX addParameters addParameter addDirection
+  place-none e = rw (← e)
 
-pub place-some : (last : Last) (s : List ℕ) (x : Coordinate) (count : ℕ) → C.Read x count ≡ coordinateRead (last .x) s
-    → withY x count (coordinateRead (last .y) (drop count s)) ≡ placeRead last s
-unfolding placeRead withX
-place-some last s x count e = rw (← e)
+  pub place-some : (x : Coordinate) (count : ℕ) → C.Read x count ≡ coordinateRead (last .x) s
+      → restRead set last s (withY x count (coordinateRead (last .y) (drop count s))) ≡ decode set last s
+  unfolding decode placeRead withX
+  place-some x count e = rw (← e)
+
+  pub y-none : (x : Coordinate) (at : ℕ) (r : CoordinateRead) → r ≡ C.Damaged → R.Damaged ≡ restRead set last s (withY x at r)
+  unfolding addParameters addParameter addDirection
+  y-none x at r e = rw e
 
 -- the direction byte
-module _ (s : List ℕ) (r : Reading) where
-  pub direction-none : r ≡ R.Damaged → R.Damaged ≡ addDirection s r
+module _ (s : List ℕ) (b : Block) (at : ℕ) where
+  pub direction-short : length s ≤ at → R.Damaged ≡ directionRead s b at
   unfolding addDirection
-  direction-none e = rw e
+  direction-short h = rw (le-ltb at (length s) h)
 
-  module _ (b : Block) (count : ℕ) (e : r ≡ R.Read b count) where
-    pub direction-short : length s ≤ count → R.Damaged ≡ addDirection s r
-    unfolding addDirection
-    direction-short h = rw (e, le-ltb count (length s) h)
-
-    pub direction-some : (byte : ℕ) → count < length s → byte ≡ getD s count 0
-        → R.Read (record { x = b .x; y = b .y; m = b .m; n = b .n; theta = b .theta; t = b .t; dir = byte }) (count + 1) ≡ addDirection s r
-    unfolding addDirection
-    direction-some byte h f = rw (e, lt-ltb count (length s) h, f)
+  pub direction-some : (byte : ℕ) → at < length s → byte ≡ getD s at 0
+      → R.Read (record { x = b .x; y = b .y; m = b .m; n = b .n; theta = b .theta; t = b .t; dir = byte }) (at + 1) ≡ directionRead s b at
+  unfolding addDirection
+  direction-some byte h f = rw (lt-ltb at (length s) h, f)
 
 -- ---- no part takes more bytes than there are
+
+-- what was read lies inside the bytes
+abbrev pub Inside : List ℕ → Reading → Type 0
+Inside s (R.Read b count) = count ≤ length s
+Inside s R.Damaged = Unit {0}
 
 pub inside-read : (s : List ℕ) (r : Reading) (b : Block) (count : ℕ) → Inside s r → r ≡ R.Read b count → count ≤ length s
 inside-read s r b count h e = rw e at h
@@ -139,21 +195,17 @@ coordinate-in last s = go (readSmall s) refl
 pub coordinate-inside : (last : ℕ) (s : List ℕ) (c : Coordinate) (count : ℕ) → C.Read c count ≡ coordinateRead last s → count ≤ length s
 coordinate-inside last s c count e = rw (← e) at (coordinate-in last s)
 
-abbrev InP : List ℕ → ParameterRead → Type 0
-InP s (P.Read p count) = count ≤ length s
-InP s P.Damaged = Unit {0}
-
-parameter-in : (used integer : Bool) (last : Interval) (s : List ℕ) → InP s (parameterRead used integer last s)
+parameter-in : (used integer : Bool) (last : Interval) (s : List ℕ) → EndsInside s (parameterRead used integer last s)
 unfolding parameterRead usedRead boundsRead
 parameter-in false integer last s = omega arith
 parameter-in true integer last s = two (leb 2 (length s)) refl (eqb (getD s 0 0) 255 && eqb (getD s 1 0) 255)
   where
-    whole : (r : FromBits) (t : Bool) → leb 16 (length s) ≡ t → InP s (cond t (boundsOf r) P.Damaged)
+    whole : (r : FromBits) (t : Bool) → leb 16 (length s) ≡ t → EndsInside s (cond t (boundsOf r) P.Damaged)
     whole (B.Bounds p) true e = leb-true 16 (length s) e
     whole (B.Refused w) true e = tt
     whole r false e = tt
 
-    two : (t : Bool) → leb 2 (length s) ≡ t → (m : Bool) → InP s (cond t (cond m (P.Read (putInterval last) 2) (boundsRead integer s)) P.Damaged)
+    two : (t : Bool) → leb 2 (length s) ≡ t → (m : Bool) → EndsInside s (cond t (cond m (P.Read (putInterval last) 2) (boundsRead integer s)) P.Damaged)
     two true e true = leb-true 2 (length s) e
     two true e false = whole (fromBits (ofBigEndian (take 8 s)) (ofBigEndian (take 8 (drop 8 s))) integer) (leb 16 (length s)) refl
     two false e m = tt
@@ -161,31 +213,17 @@ parameter-in true integer last s = two (leb 2 (length s)) refl (eqb (getD s 0 0)
 pub parameter-inside : (used integer : Bool) (last : Interval) (s : List ℕ) (p : Interval) (count : ℕ) → P.Read p count ≡ parameterRead used integer last s → count ≤ length s
 parameter-inside used integer last s p count e = rw (← e) at (parameter-in used integer last s)
 
-pub add-inside : (set : ℕ) (last : Last) (s : List ℕ) (d : Direction) (r : Reading) → Inside s r → Inside s (addParameter set last s d r)
-unfolding addParameter
-add-inside set last s d (R.Read b n) h = go (parameterRead (inUse set d) (isInteger d) (recalled last d) (drop n s)) (parameter-in (inUse set d) (isInteger d) (recalled last d) (drop n s))
+pub behind-inside : (set : ℕ) (d : Direction) (last : Interval) (s : List ℕ) (r : ParameterRead) → EndsInside s r → EndsInside s (parameterBehind set d last s r)
+unfolding parameterBehind
+behind-inside set d last s (P.Read q at) h = go (parameterRead (inUse set d) (isInteger d) last (drop at s)) (parameter-in (inUse set d) (isInteger d) last (drop at s))
   where
-    go : (p : ParameterRead) → InP (drop n s) p → Inside s (withRead b d n p)
-    go (P.Read p k) i = omega (arith, length-drop n s)
+    go : (p : ParameterRead) → EndsInside (drop at s) p → EndsInside s (endsAt at p)
+    go (P.Read p k) i = omega (arith, length-drop at s)
     go P.Damaged i = tt
-add-inside set last s d R.Damaged h = tt
+behind-inside set d last s P.Damaged h = tt
 
-pub all-inside : (set : ℕ) (last : Last) (s : List ℕ) (ds : List Direction) (r : Reading) → Inside s r → Inside s (addParameters set last s ds r)
-unfolding addParameters
-all-inside set last s [] r h = h
-all-inside set last s (d ∷ ds) r h = all-inside set last s ds (addParameter set last s d r) (add-inside set last s d r h)
-
-pub place-inside : (last : Last) (s : List ℕ) → Inside s (placeRead last s)
-unfolding placeRead withX
-place-inside last s = go (coordinateRead (last .x) s) (coordinate-in (last .x) s)
-  where
-    next : (x : Coordinate) (n : ℕ) → n ≤ length s → (r : CoordinateRead) → InC (drop n s) r → Inside s (withY x n r)
-    next x n h (C.Read y k) i = omega (arith, length-drop n s)
-    next x n h C.Damaged i = tt
-
-    go : (r : CoordinateRead) → InC s r → Inside s (withX last s r)
-    go (C.Read x n) h = next x n h (coordinateRead (last .y) (drop n s)) (coordinate-in (last .y) (drop n s))
-    go C.Damaged h = tt
+pub ends-inside : (s : List ℕ) (r : ParameterRead) (p : Interval) (at : ℕ) → EndsInside s r → r ≡ P.Read p at → at ≤ length s
+ends-inside s r p at h e = rw e at h
 
 direction-inside : (s : List ℕ) (r : Reading) → Inside s (addDirection s r)
 unfolding addDirection

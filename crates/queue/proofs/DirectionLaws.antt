@@ -2,13 +2,23 @@
 use mathlib.Core.Path.{_≡_, refl, sym, _∙_}
 use mathlib.Core.Bool.{Bool, true, false, cond}
 use mathlib.Core.List.{List, [], _∷_}
-use Prim.Native.Nat.{ℕ, zero, suc, _+_, _-_, _≤_, _<_}
+use Prim.Native.Nat.{ℕ, zero, suc, _+_, _-_, _/_, _%_, _≤_, _<_}
 use native.Mathlib.Omega.{arith}
 use lib.ListN.{length}
+use borrow.Author.Tests.{ne-eqb}
 use Rattle.queue.specs.declared.directions.Direction.{Direction}
 use Rattle.queue.specs.declared.directions.Direction.the-variants as D
 use Rattle.queue.specs.declared.directions.DirectionAt.the-variants as A
 use Rattle.queue.specs.Directions.{inUse, usedOf, directions, parameters, directionAt, ones}
+
+-- a set whose last four digits are 0 uses no parameter
+pub unused : (set : ℕ) → set % 16 ≡ 0 → (inUse set D.M ≡ false) × (inUse set D.N ≡ false) × (inUse set D.Theta ≡ false) × (inUse set D.T ≡ false)
+unused set h = (
+  ne-eqb (set / 8 % 2) 1 (λ e. omega arith),
+  ne-eqb (set / 4 % 2) 1 (λ e. omega arith),
+  ne-eqb (set / 2 % 2) 1 (λ e. omega arith),
+  ne-eqb (set % 2) 1 (λ e. omega arith),
+)
 
 -- one direction more
 pub used-length : (set : ℕ) (d : Direction) (ds : List Direction) → length (usedOf set (d ∷ ds)) ≡ ones (inUse set d) + length (usedOf set ds)

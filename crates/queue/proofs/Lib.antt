@@ -7,6 +7,7 @@ pub mod QueueableLaws
 pub mod ReadLaws
 pub mod BlockReading
 pub mod QueueAnswers
+pub mod PlainLaws
 pub mod NumberLaws
 pub mod Xor
 pub mod RoundTrip

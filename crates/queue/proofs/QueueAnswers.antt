@@ -20,7 +20,7 @@ use Rattle.queue.specs.declared.Measured.the-variants as M
 use Rattle.queue.specs.declared.directions.Direction.the-variants as D
 use Rattle.queue.specs.declared.read.Reading.{Reading}
 use Rattle.queue.specs.declared.read.Reading.the-variants as R
-use Rattle.queue.specs.Ring.{olderRun, newerRun, content, fitsRing, wrapped, stored}
+use Rattle.queue.specs.Ring.{olderRun, newerRun, content, fitsRing, wrapped, stored, storedBehind}
 use Rattle.queue.specs.Directions.{inUse}
 use Rattle.queue.specs.Block.{settledAt, settled, remembered}
 use Rattle.queue.specs.Code.{encode, canQueue, indicesKnown}
@@ -102,6 +102,16 @@ module _ (ring : List ℕ) (head used set : ℕ) (back : Last) (b : Block) where
     length-is : count ≡ length (codeOfKept set back b)
     length-is = counts ∙ rw is-kept (omega arith)
 
+    -- the code stored, in whatever way, where there is room
+    pub append-stored : (last : Last) (ring₁ : List ℕ) → used + count ≤ length ring → last ≡ remembered kept
+        → ring₁ ≡ storedBehind ring head used (codeOfKept set back b)
+        → (A.Done last (used + count) ≡ appended (length ring) head used set back b) × (ring₁ ≡ appendedRing ring head used set back b)
+    unfolding appended appendedRing
+    append-stored last ring₁ h l s =
+        let n : ℕ = length (codeOfKept set back b) in
+        let g : leb (used + n) (length ring) ≡ true = le-leb (used + n) (length ring) (omega (arith, length-is)) in
+        (rw (e, f, g, l, is-kept, length-is), rw (e, f, g) s)
+
     pub append-full : length ring - used < count → (A.NoRoom ≡ appended (length ring) head used set back b) × (ring ≡ appendedRing ring head used set back b)
     unfolding appended appendedRing
     append-full h =
@@ -113,10 +123,7 @@ module _ (ring : List ℕ) (head used set : ℕ) (back : Last) (b : Block) where
         → from ≡ wrapped (length ring) (head + used) → code ≡ sets code₀ 0 (encode set back kept) → length (encode set back kept) ≤ length code₀
         → ring₁ ≡ stored ring from (take count code)
         → (A.Done last (used + count) ≡ appended (length ring) head used set back b) × (ring₁ ≡ appendedRing ring head used set back b)
-    unfolding appended appendedRing
     append-done last from code code₀ ring₁ h l w c k s =
-        let n : ℕ = length (codeOfKept set back b) in
-        let g : leb (used + n) (length ring) ≡ true = le-leb (used + n) (length ring) (omega (arith, fits-both (length ring) head used e .1, length-is)) in
         let bytes : take count code ≡ codeOfKept set back b =
         rw (length-is, c, is-kept) (take-sets (encode set back (settled set b)) code₀ (rw is-kept at k)) in
-        (rw (e, f, g, l, is-kept, length-is), rw (e, f, g) (s ∙ rw (w, bytes)))
+        append-stored last ring₁ (omega (arith, fits-both (length ring) head used e .1)) l (s ∙ rw (w, bytes))

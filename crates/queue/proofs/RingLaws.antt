@@ -9,7 +9,7 @@ use native.Mathlib.Decide.{ℕ-discrete}
 use native.Mathlib.Numerals.{add-one}
 use lib.Dec.{eqb}
 use lib.ListN.{length, getD, take, drop, set, length-drop, length-take, length-set, length-append, drop-of-length-le, List·getD-append}
-use lib.Seq.{take-all, drop-cons, getD-drop, getD-append-add, drop-set-add, drop-append-le, drop-append-add, take-append-le, take-nil, drop-drop, drop-set-lt, take-suc-set, drop-length, getD-set-other}
+use lib.Seq.{sets, take-all, drop-cons, getD-drop, getD-append-add, drop-set-add, drop-append-le, drop-append-add, take-append-le, take-nil, drop-drop, drop-set-lt, take-suc-set, drop-length, getD-set-other}
 use borrow.Author.Tests.{lt-ltb, le-ltb, eq-eqb, ne-eqb}
 use Rattle.base.proofs.Test.{by-ltb}
 use Rattle.queue.specs.Ring.{partOf, olderRun, newerRun, content, stored, wrapped, storedBehind}
@@ -85,10 +85,26 @@ stored-step ring source p i count h k =
     let inside : i < length source = omega arith in
     rw (drop-cons source i 0 inside, e, add-one i)
 
+pub straight-step : (ring source : List ℕ) (p i count : ℕ) → i < count → count ≤ length source
+    → sets (set ring p (getD source i 0)) (p + 1) (take (count - (i + 1)) (drop (i + 1) source)) ≡ sets ring p (take (count - i) (drop i source))
+straight-step ring source p i count h k =
+    let e : count - i ≡ suc (count - (i + 1)) = omega arith in
+    let inside : i < length source = omega arith in
+    rw (drop-cons source i 0 inside, e, add-one i, add-one p)
+
 pub length-stored : (bs ring : List ℕ) (p : ℕ) → length (stored ring p bs) ≡ length ring
 unfolding stored
 length-stored [] ring p = refl
 length-stored (b ∷ bs) ring p = length-stored bs (set ring p b) (next (length ring) p) ∙ length-set ring p b
+
+-- bytes that do not reach the end are stored in a row
+pub stored-straight : (bs ring : List ℕ) (p : ℕ) → p + length bs ≤ length ring → stored ring p bs ≡ sets ring p bs
+unfolding stored
+stored-straight [] ring p h = refl
+stored-straight (b ∷ []) ring p h = refl
+stored-straight (b ∷ c ∷ cs) ring p h =
+    let same : length (set ring p b) ≡ length ring = length-set ring p b in
+    rw (next-on (length ring) p (λ e. omega arith), add-one p) (stored-straight (c ∷ cs) (set ring p b) (suc p) (omega arith))
 
 -- a byte that the stores pass by keeps its value: it lies before the first and after the last of them, round the end
 pub stored-other : (bs ring : List ℕ) (p i : ℕ) → p < length ring → i < length ring → (p ≤ i → p + length bs ≤ i) → (i < p → p + length bs ≤ length ring + i)
@@ -108,6 +124,10 @@ stored-other (b ∷ bs) ring p i hp hi f g =
           (stored-other bs (set ring p b) (p + 1) i (omega (arith, e)) (omega arith) (λ z. omega (arith, f (omega arith))) (λ z. omega (arith, g (omega (arith, apart))))
           ∙ getD-set-other ring p i b 0 apart)
     ]
+
+-- the tail is a position
+pub tail-inside : (n head used : ℕ) → head < n → used ≤ n → wrapped n (head + used) < n
+tail-inside n head used h k = by-ltb (λ (p : ℕ). p < n) (head + used) n (head + used) (head + used - n) (λ i. i) (λ i. omega arith)
 
 -- the position after the tail is the tail of one byte more
 next-tail : (n t : ℕ) → t + 1 < n + n → next n (wrapped n t) ≡ wrapped n (t + 1)

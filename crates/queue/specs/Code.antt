@@ -62,15 +62,22 @@ abbrev pub Written : List ℕ → ℕ → List ℕ → ℕ → List ℕ → Type
 Written before at bytes end after = (end ≡ at + length bytes) × (after ≡ sets before at bytes)
 
 -- a used parameter is legal
-abbrev pub parameterLegal : ℕ → Block → Direction → Bool
-parameterLegal set b d = not (inUse set d) || legalInterval (parameterOf b d) (isInteger d)
+abbrev pub legalIfUsed : ℕ → Direction → Interval → Bool
+legalIfUsed set d p = not (inUse set d) || legalInterval p (isInteger d)
+
+-- all of them are
+abbrev pub parametersLegal : ℕ → Interval → Interval → Interval → Interval → Bool
+parametersLegal set m n theta t = legalIfUsed set D.M m && legalIfUsed set D.N n && legalIfUsed set D.Theta theta && legalIfUsed set D.T t
 
 -- what can be queued: coordinates in the ranges for index and level, used parameters legal
 unfoldable pub canQueue : ℕ → Block → Bool
 canQueue set b =
-    legal ordinaryFloor (b .x) && legal ordinaryFloor (b .y)
-    && parameterLegal set b D.M && parameterLegal set b D.N && parameterLegal set b D.Theta && parameterLegal set b D.T
+    legal ordinaryFloor (b .x) && legal ordinaryFloor (b .y) && parametersLegal set (b .m) (b .n) (b .theta) (b .t)
 
 -- remembered indices stay under 2^47 as all do
 unfoldable pub indicesKnown : Last → Bool
 indicesKnown last = ltb (last .x) (2 ^ 47) && ltb (last .y) (2 ^ 47)
+
+-- x and y are in their ranges, and the remembered indices too
+abbrev pub placeCodable : Coordinate → Coordinate → ℕ → ℕ → Bool
+placeCodable x y lastx lasty = legal ordinaryFloor x && legal ordinaryFloor y && ltb lastx (2 ^ 47) && ltb lasty (2 ^ 47)

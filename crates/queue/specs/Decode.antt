@@ -70,9 +70,11 @@ unfoldable pub parameterRead : Bool → Bool → Interval → List ℕ → Param
 parameterRead used integer last s = cond used (usedRead integer last s) (P.Read wholeLine 0)
 
 -- x and y: the rest of the block is to come
+abbrev pub withPlace : Coordinate → Coordinate → ℕ → Reading
+withPlace x y at = R.Read (record { x = x; y = y; m = wholeLine; n = wholeLine; theta = wholeLine; t = wholeLine; dir = 0 }) at
+
 abbrev pub withY : Coordinate → ℕ → CoordinateRead → Reading
-withY x count (C.Read y n) =
-    R.Read (record { x = x; y = y; m = wholeLine; n = wholeLine; theta = wholeLine; t = wholeLine; dir = 0 }) (count + n)
+withY x count (C.Read y n) = withPlace x y (count + n)
 withY x count C.Damaged = R.Damaged
 
 unfoldable pub withX : Last → List ℕ → CoordinateRead → Reading
@@ -103,11 +105,38 @@ addDirection s (R.Read b count) =
     R.Damaged
 addDirection s R.Damaged = R.Damaged
 
+-- the parameters and the direction, behind x and y
+abbrev pub restRead : ℕ → Last → List ℕ → Reading → Reading
+restRead set last s r = addDirection s (addParameters set last s parameters r)
+
 -- the block at the front of some bytes, and how many bytes its code takes
 unfoldable pub decode : ℕ → Last → List ℕ → Reading
-decode set last s = addDirection s (addParameters set last s parameters (placeRead last s))
+decode set last s = restRead set last s (placeRead last s)
 
--- what was read lies inside the bytes
-abbrev pub Inside : List ℕ → Reading → Type 0
-Inside s (R.Read b count) = count ≤ length s
-Inside s R.Damaged = Unit {0}
+-- The reader keeps the parameters apart and makes the block at the end. A parameter behind another: where its bytes end stands in place of their count.
+abbrev pub endsAt : ℕ → ParameterRead → ParameterRead
+endsAt at (P.Read p n) = P.Read p (at + n)
+endsAt at P.Damaged = P.Damaged
+
+unfoldable pub parameterBehind : ℕ → Direction → Interval → List ℕ → ParameterRead → ParameterRead
+parameterBehind set d last s (P.Read p at) = endsAt at (parameterRead (inUse set d) (isInteger d) last (drop at s))
+parameterBehind set d last s P.Damaged = P.Damaged
+
+-- it ends inside the bytes
+abbrev pub EndsInside : List ℕ → ParameterRead → Type 0
+EndsInside s (P.Read p at) = at ≤ length s
+EndsInside s P.Damaged = Unit {0}
+
+-- its interval
+abbrev pub intervalRead : ParameterRead → Interval
+intervalRead (P.Read p at) = p
+intervalRead P.Damaged = wholeLine
+
+-- the direction behind a block without one
+abbrev pub directionRead : List ℕ → Block → ℕ → Reading
+directionRead s b at = addDirection s (R.Read b at)
+
+-- the same behind the last parameter, with the three before it
+abbrev pub endRead : List ℕ → Coordinate → Coordinate → Interval → Interval → Interval → ParameterRead → Reading
+endRead s x y m n theta (P.Read t at) = directionRead s (record { x = x; y = y; m = m; n = n; theta = theta; t = t; dir = 0 }) at
+endRead s x y m n theta P.Damaged = R.Damaged

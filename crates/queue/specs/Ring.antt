@@ -40,3 +40,7 @@ stored ring at (b ∷ bs) = stored (set ring at b) (cond (eqb (at + 1) (length r
 -- bytes stored behind those that are used
 abbrev pub storedBehind : List ℕ → ℕ → ℕ → List ℕ → List ℕ
 storedBehind ring head used bs = stored ring (wrapped (length ring) (head + used)) bs
+
+-- so many bytes fit behind those that are used, and before the end
+abbrev pub straightRoom : ℕ → ℕ → ℕ → ℕ → Bool
+straightRoom count len head used = leb count (len - wrapped len (head + used)) && leb count (len - used)

@@ -9,7 +9,7 @@ ghost use Rattle.base.specs.Bytes.{littleEndian, bigEndian};
 ghost use Rattle.small.specs.Small.{smallCode};
 ghost use Rattle.queue.specs.Directions.{inUse, parameters};
 ghost use Rattle.queue.specs.Block.{parameterOf, recalled};
-ghost use Rattle.queue.specs.Code.{levelByte, coordinateCode, boundsCode, parameterCode, parametersCode, placeCode, encode, parameterLegal, canQueue, indicesKnown, Written};
+ghost use Rattle.queue.specs.Code.{levelByte, coordinateCode, boundsCode, parameterCode, parametersCode, placeCode, encode, legalIfUsed, parametersLegal, canQueue, indicesKnown, placeCodable, Written};
 use super::Block;
 use super::Last;
 use super::directions::Direction;
@@ -17,6 +17,7 @@ use super::directions::is_used;
 use super::kept::is_integer;
 use super::kept::parameter_of;
 use super::kept::recall;
+use coordinate::Coordinate;
 use interval::Interval;
 use small::Coded;
 
@@ -70,7 +71,7 @@ fn level_byte(rank: u8) -> u8
 }
 
 // A coordinate against the remembered index.
-fn put_coordinate(out: &mut [u8], at: usize, last: u64, index: u64, rank: u8) -> usize
+pub(crate) fn put_coordinate(out: &mut [u8], at: usize, last: u64, index: u64, rank: u8) -> usize
     requires { ⌜ (at + 9 ≤ length (now out)) × (last < 2 ^ 47) × (index < 2 ^ 47) × (rank < 64) ⌝ }
     ensures { λ r. ⌜ Written (now (out .entry)) at (coordinateCode last (record { index = index; rank = rank })) r (now (out .exit)) ⌝ }
 {
@@ -160,32 +161,32 @@ pub(crate) fn put_block(out: &mut [u8], set: u8, last: Last, b: Block) -> usize
     end + 1
 }
 
-// Whether a used parameter is legal.
-fn is_fine(set: u8, b: Block, d: Direction) -> bool
-    ensures { λ r. ⌜ r ≡ parameterLegal set b d ⌝ }
+// Whether a parameter is legal, if it is used.
+fn is_fine(set: u8, d: Direction, p: Interval) -> bool
+    ensures { λ r. ⌜ r ≡ legalIfUsed set d p ⌝ }
 {
     if !is_used(set, d) {
         return true;
     }
-    interval::is_legal(parameter_of(b, d), is_integer(d))
+    interval::is_legal(p, is_integer(d))
 }
 
-// Whether the block can be queued.
-pub(crate) fn can_queue(set: u8, b: Block) -> bool
-    ensures { λ r. ⌜ r ≡ canQueue set b ⌝ }
+// Whether all four are: of a block, or of a setup's ranges.
+pub fn are_fine(set: u8, m: Interval, n: Interval, theta: Interval, t: Interval) -> bool
+    ensures { λ r. ⌜ r ≡ parametersLegal set m n theta t ⌝ }
 {
-    let x = coordinate::is_legal(b.x);
-    let y = coordinate::is_legal(b.y);
-    let m = is_fine(set, b, Direction::M);
-    let n = is_fine(set, b, Direction::N);
-    let theta = is_fine(set, b, Direction::Theta);
-    let t = is_fine(set, b, Direction::T);
-    x & y & m & n & theta & t
+    let fine_m = is_fine(set, Direction::M, m);
+    let fine_n = is_fine(set, Direction::N, n);
+    let fine_theta = is_fine(set, Direction::Theta, theta);
+    let fine_t = is_fine(set, Direction::T, t);
+    fine_m & fine_n & fine_theta & fine_t
 }
 
-// Whether the remembered indices are ones that a block can have.
-pub(crate) fn knows_indices(last: Last) -> bool
-    ensures { λ r. ⌜ r ≡ indicesKnown last ⌝ }
+// Whether x and y can be queued, and the remembered indices are ones that a block can have.
+pub(crate) fn is_place(x: Coordinate, y: Coordinate, lastx: u64, lasty: u64) -> bool
+    ensures { λ r. ⌜ r ≡ placeCodable x y lastx lasty ⌝ }
 {
-    (last.x < 140737488355328) & (last.y < 140737488355328)
+    let fine_x = coordinate::is_legal(x);
+    let fine_y = coordinate::is_legal(y);
+    fine_x & fine_y & (lastx < 140737488355328) & (lasty < 140737488355328)
 }

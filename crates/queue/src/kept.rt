@@ -135,6 +135,23 @@ pub fn remember(b: Block) -> Last
     }
 }
 
+// The same in a set without parameters: only the place is looked at.
+pub(crate) fn remember_place(b: Block) -> Last
+    ensures { λ r. ⌜ r ≡ remembered (settled 0 b) ⌝ }
+{
+    let x = b.x;
+    let y = b.y;
+    let line = whole_line();
+    Last {
+        x: x.index,
+        y: y.index,
+        m: line,
+        n: line,
+        theta: line,
+        t: line,
+    }
+}
+
 // What is remembered before the first block.
 pub fn starting_last() -> Last
     ensures { λ r. ⌜ r ≡ startingLast ⌝ }

@@ -6,7 +6,7 @@ ghost use lib.ListN.{length};
 ghost use Rattle.small.specs.Small.{smallCode};
 ghost use Rattle.queue.specs.Directions.{inUse, parameters};
 ghost use Rattle.queue.specs.Block.{parameterOf, recalled};
-ghost use Rattle.queue.specs.Code.{coordinateCode, parameterCode, parametersCode, encode, canQueue, indicesKnown};
+ghost use Rattle.queue.specs.Code.{coordinateCode, parameterCode, parametersCode, placeCode, encode, canQueue, indicesKnown};
 use super::Block;
 use super::Last;
 use super::directions::Direction;
@@ -59,12 +59,18 @@ fn parameters_length(set: u8, last: Last, b: Block) -> usize
     m + n + theta + t
 }
 
+// The bytes of x and y.
+pub(crate) fn place_length(last: Last, b: Block) -> usize
+    requires { ⌜ (last .x < 2 ^ 47) × (last .y < 2 ^ 47) × (b .x .index < 2 ^ 47) × (b .y .index < 2 ^ 47) ⌝ }
+    ensures { λ r. ⌜ r ≡ length (placeCode last b) ⌝ }
+{
+    coordinate_length(last.x, b.x) + coordinate_length(last.y, b.y)
+}
+
 // The bytes of a block that can be queued.
 pub(crate) fn block_length(set: u8, last: Last, b: Block) -> usize
     requires { ⌜ (canQueue set b ≡ true) × (indicesKnown last ≡ true) ⌝ }
     ensures { λ r. ⌜ r ≡ length (encode set last b) ⌝ }
 {
-    let x = coordinate_length(last.x, b.x);
-    let y = coordinate_length(last.y, b.y);
-    x + y + parameters_length(set, last, b) + 1
+    place_length(last, b) + parameters_length(set, last, b) + 1
 }

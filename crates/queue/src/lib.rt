@@ -4,16 +4,21 @@
 ghost use mathlib.Core.Path.{_≡_};
 ghost use mathlib.Core.Bool.{true};
 ghost use lib.ListN.{length};
-ghost use Rattle.queue.specs.Ring.{fitsRing};
-ghost use Rattle.queue.specs.Queue.{taken, codable, measured, appended, appendedRing};
-use code::can_queue;
-use code::knows_indices;
+ghost use Prim.Native.Nat.{_+_, _^_, _≤_, _<_};
+ghost use Rattle.queue.specs.Ring.{fitsRing, straightRoom};
+ghost use Rattle.queue.specs.Code.{placeCodable, Written};
+ghost use Rattle.queue.specs.Queue.{taken, codable, codeOfKept, measured, appended, appendedRing};
+use code::are_fine;
+use code::is_place;
 use code::put_block;
+use code::put_coordinate;
 use coordinate::Coordinate;
 use interval::Interval;
 use kept::remember;
+use kept::remember_place;
 use kept::settle;
 use length::block_length;
+use length::place_length;
 use read::Reading;
 use read::read_block;
 use ring::move_on;
@@ -21,7 +26,7 @@ use ring::newer_run;
 use ring::older_run;
 use ring::store;
 
-mod code;
+pub mod code;
 pub mod directions;
 pub mod kept;
 mod length;
@@ -90,13 +95,6 @@ fn fits_ring(len: usize, head: usize, used: usize) -> bool
     (head < len) & (used <= len)
 }
 
-// Whether a block can be coded against remembered values.
-fn is_codable(set: u8, back: Last, b: Block) -> bool
-    ensures { λ r. ⌜ r ≡ codable set back b ⌝ }
-{
-    can_queue(set, b) & knows_indices(back)
-}
-
 // Takes the front block: its bytes are free once the head and the use that it answers are kept. No byte changes.
 pub fn take(ring: &[u8], head: usize, used: usize, set: u8, front: Last) -> Taken
     ensures { λ r. ⌜ r ≡ taken (now (ring .entry)) head used set front ⌝ }
@@ -125,10 +123,35 @@ pub fn take(ring: &[u8], head: usize, used: usize, set: u8, front: Last) -> Take
 }
 
 // The bytes that a block's code would take, for a caller that must know before anything is written.
+// A set without parameters has its own way, here and in append: it is the common one, and only the place is looked at.
 pub fn measure(set: u8, back: Last, b: Block) -> Measured
     ensures { λ r. ⌜ r ≡ measured set back b ⌝ }
 {
-    if !is_codable(set, back, b) {
+    if !is_place(b.x, b.y, back.x, back.y) {
+        return Measured::NotCodable;
+    }
+    if set % 16 == 0 {
+        return measure_place(back, b);
+    }
+    measure_used(set, back, b)
+}
+
+// The same in a set without parameters, where the place can be coded.
+fn measure_place(back: Last, b: Block) -> Measured
+    requires { ⌜ codable 0 back b ≡ true ⌝ }
+    ensures { λ r. ⌜ r ≡ measured 0 back b ⌝ }
+{
+    let count = place_length(back, b) + 1;
+    let last = remember_place(b);
+    Measured::Bytes { count, last }
+}
+
+// The same in any set, where the place can be coded.
+fn measure_used(set: u8, back: Last, b: Block) -> Measured
+    requires { ⌜ placeCodable (b .x) (b .y) (back .x) (back .y) ≡ true ⌝ }
+    ensures { λ r. ⌜ r ≡ measured set back b ⌝ }
+{
+    if !are_fine(set, b.m, b.n, b.theta, b.t) {
         return Measured::NotCodable;
     }
     let kept = settle(set, b);
@@ -144,7 +167,100 @@ pub fn append(ring: &mut [u8], head: usize, used: usize, set: u8, back: Last, b:
     if !fits_ring(ring.len(), head, used) {
         return Appended::Outside;
     }
-    if !is_codable(set, back, b) {
+    if !is_place(b.x, b.y, back.x, back.y) {
+        return Appended::NotCodable;
+    }
+    if set % 16 == 0 {
+        return append_place(ring, head, used, back, b);
+    }
+    append_used(ring, head, used, set, back, b)
+}
+
+// The same in a set without parameters, where head and use fit and the place can be coded.
+fn append_place(ring: &mut [u8], head: usize, used: usize, back: Last, b: Block) -> Appended
+    requires { ⌜ (fitsRing (length (now ring)) head used ≡ true) × (codable 0 back b ≡ true) ⌝ }
+    ensures { λ r. ⌜ (r ≡ appended (length (now (ring .entry))) head used 0 back b) × (now (ring .exit) ≡ appendedRing (now (ring .entry)) head used 0 back b) ⌝ }
+{
+    if is_straight(ring.len(), head, used) {
+        return append_straight(ring, head, used, back, b);
+    }
+    append_across(ring, head, used, back, b)
+}
+
+// Whether the longest code of a place and a direction fits, and before the ring's end.
+fn is_straight(len: usize, head: usize, used: usize) -> bool
+    requires { ⌜ (fitsRing len head used ≡ true) × (len < 2 ^ 63) ⌝ }
+    ensures { λ r. ⌜ r ≡ straightRoom 19 len head used ⌝ }
+{
+    let from = move_on(len, head, used);
+    (19 <= len - from) & (19 <= len - used)
+}
+
+// Then the code goes into the ring as it is made.
+fn append_straight(ring: &mut [u8], head: usize, used: usize, back: Last, b: Block) -> Appended
+    requires { ⌜ (fitsRing (length (now ring)) head used ≡ true) × (codable 0 back b ≡ true) × (straightRoom 19 (length (now ring)) head used ≡ true) ⌝ }
+    ensures { λ r. ⌜ (r ≡ appended (length (now (ring .entry))) head used 0 back b) × (now (ring .exit) ≡ appendedRing (now (ring .entry)) head used 0 back b) ⌝ }
+{
+    let from = move_on(ring.len(), head, used);
+    let end = put_straight(ring, from, back, b);
+    let last = remember_place(b);
+    Appended::Done {
+        last,
+        used: used + (end - from),
+    }
+}
+
+// The code of a place and a direction from a position on. Answers where it ends.
+fn put_straight(ring: &mut [u8], from: usize, back: Last, b: Block) -> usize
+    requires { ⌜ (from + 19 ≤ length (now ring)) × (codable 0 back b ≡ true) ⌝ }
+    ensures { λ r. ⌜ Written (now (ring .entry)) from (codeOfKept 0 back b) r (now (ring .exit)) ⌝ }
+{
+    let x = b.x;
+    let y = b.y;
+    let middle = put_coordinate(ring, from, back.x, x.index, x.rank);
+    let end = put_coordinate(ring, middle, back.y, y.index, y.rank);
+    ring[end] = b.dir;
+    end + 1
+}
+
+// Else it is made apart, and stored round the ring's end if there is room.
+fn append_across(ring: &mut [u8], head: usize, used: usize, back: Last, b: Block) -> Appended
+    requires { ⌜ (fitsRing (length (now ring)) head used ≡ true) × (codable 0 back b ≡ true) ⌝ }
+    ensures { λ r. ⌜ (r ≡ appended (length (now (ring .entry))) head used 0 back b) × (now (ring .exit) ≡ appendedRing (now (ring .entry)) head used 0 back b) ⌝ }
+{
+    let mut code = [0u8; 19];
+    let count = put_apart(&mut code, back, b);
+    if ring.len() - used < count {
+        return Appended::NoRoom;
+    }
+    let from = move_on(ring.len(), head, used);
+    store(ring, from, &code, count);
+    let last = remember_place(b);
+    Appended::Done {
+        last,
+        used: used + count,
+    }
+}
+
+// As put_straight, at the front of a buffer: the way round the ring's end, kept apart so that the usual way stays short.
+fn put_apart(out: &mut [u8], back: Last, b: Block) -> usize
+    requires { ⌜ (19 ≤ length (now out)) × (codable 0 back b ≡ true) ⌝ }
+    ensures { λ r. ⌜ Written (now (out .entry)) 0 (codeOfKept 0 back b) r (now (out .exit)) ⌝ }
+{
+    let x = b.x;
+    let y = b.y;
+    let middle = put_coordinate(out, 0, back.x, x.index, x.rank);
+    let end = put_coordinate(out, middle, back.y, y.index, y.rank);
+    out[end] = b.dir;
+    end + 1
+}
+
+// The same in any set, where head and use fit and the place can be coded.
+fn append_used(ring: &mut [u8], head: usize, used: usize, set: u8, back: Last, b: Block) -> Appended
+    requires { ⌜ (fitsRing (length (now ring)) head used ≡ true) × (placeCodable (b .x) (b .y) (back .x) (back .y) ≡ true) ⌝ }
+    ensures { λ r. ⌜ (r ≡ appended (length (now (ring .entry))) head used set back b) × (now (ring .exit) ≡ appendedRing (now (ring .entry)) head used set back b) ⌝ }
+{
+    if !are_fine(set, b.m, b.n, b.theta, b.t) {
         return Appended::NotCodable;
     }
     append_kept(ring, head, used, set, back, b)

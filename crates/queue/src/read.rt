@@ -7,16 +7,13 @@ ghost use lib.ListN.{length, take, drop};
 ghost use lib.Seq.{sets};
 ghost use Rattle.base.specs.Bytes.{ofBigEndian};
 ghost use Rattle.small.specs.Small.{readSmall};
-ghost use Rattle.queue.specs.Decode.{levelOf, levelRead, coordinateRead, boundsRead, usedRead, parameterRead, withY, placeRead, addParameter, addParameters, addDirection, decode, Inside};
-ghost use Rattle.queue.specs.Directions.{parameters};
+ghost use Rattle.queue.specs.Decode.{levelOf, levelRead, coordinateRead, boundsRead, usedRead, parameterRead, withPlace, withY, restRead, decode, parameterBehind, EndsInside, intervalRead, directionRead, endRead};
 use super::Block;
 use super::Last;
 use super::directions::Direction;
 use super::directions::is_used;
 use super::kept::is_integer;
-use super::kept::recall;
 use super::kept::whole_line;
-use super::kept::with_parameter;
 use super::ring::byte_at;
 use super::ring::part;
 use coordinate::Coordinate;
@@ -217,120 +214,168 @@ fn read_parameter<'a>(
     ParameterRead::Read { interval, count: 0 }
 }
 
-// The parameter along a direction, behind what was read so far.
-fn read_along<'a>(
+// The parameter along a direction, behind another: where it ends stands in place of its count.
+fn read_behind<'a>(
     older: &'a [u8],
     newer: &'a [u8],
     set: u8,
-    last: Last,
     d: Direction,
-    known: Reading,
-) -> Reading
-    requires { ⌜ Inside (now older ++ now newer) known ⌝ }
-    ensures { λ r. ⌜ r ≡ addParameter set last (now (older .entry) ++ now (newer .entry)) d known ⌝ }
+    last: Interval,
+    before: ParameterRead,
+) -> ParameterRead
+    requires { ⌜ EndsInside (now older ++ now newer) before ⌝ }
+    ensures { λ r. ⌜ r ≡ parameterBehind set d last (now (older .entry) ++ now (newer .entry)) before ⌝ }
 {
-    match known {
-        Reading::Damaged => Reading::Damaged,
-        Reading::Read { block, count } => match read_parameter(
-            older,
-            newer,
-            count,
-            is_used(set, d),
-            is_integer(d),
-            recall(last, d),
-        ) {
-            ParameterRead::Damaged => Reading::Damaged,
-            ParameterRead::Read {
+    match before {
+        ParameterRead::Damaged => ParameterRead::Damaged,
+        ParameterRead::Read {
+            interval: _,
+            count: at,
+        } => match read_parameter(older, newer, at, is_used(set, d), is_integer(d), last) {
+            ParameterRead::Damaged => ParameterRead::Damaged,
+            ParameterRead::Read { interval, count } => ParameterRead::Read {
                 interval,
-                count: more,
-            } => {
-                let with = with_parameter(block, d, interval);
-                Reading::Read {
-                    block: with,
-                    count: count + more,
-                }
-            }
+                count: at + count,
+            },
         },
     }
 }
 
-// x and y, at the front.
-fn read_place<'a>(older: &'a [u8], newer: &'a [u8], last: Last) -> Reading
-    ensures { λ r. ⌜ r ≡ placeRead last (now (older .entry) ++ now (newer .entry)) ⌝ }
+// The interval of a parameter that was read.
+fn interval_of(p: ParameterRead) -> Interval
+    ensures { λ r. ⌜ r ≡ intervalRead p ⌝ }
 {
-    match read_coordinate(older, newer, 0, last.x) {
-        CoordinateRead::Damaged => Reading::Damaged,
-        CoordinateRead::Read {
-            coordinate: x,
-            count,
-        } => read_y(older, newer, last, x, count),
+    match p {
+        ParameterRead::Damaged => whole_line(),
+        ParameterRead::Read { interval, count } => interval,
     }
 }
 
-// y, behind x.
-fn read_y<'a>(older: &'a [u8], newer: &'a [u8], last: Last, x: Coordinate, at: usize) -> Reading
+// The direction byte, behind the rest: the block is made here.
+fn read_direction<'a>(
+    older: &'a [u8],
+    newer: &'a [u8],
+    x: Coordinate,
+    y: Coordinate,
+    m: Interval,
+    n: Interval,
+    theta: Interval,
+    t: Interval,
+    at: usize,
+) -> Reading
+    ensures { λ r. ⌜ r ≡ directionRead (now (older .entry) ++ now (newer .entry)) (record { x = x; y = y; m = m; n = n; theta = theta; t = t; dir = 0 }) at ⌝ }
+{
+    if older.len() + newer.len() <= at {
+        return Reading::Damaged;
+    }
+    let dir = byte_at(older, newer, at);
+    let block = Block {
+        x,
+        y,
+        m,
+        n,
+        theta,
+        t,
+        dir,
+    };
+    Reading::Read {
+        block,
+        count: at + 1,
+    }
+}
+
+// The same behind the parameters, if the last of them was read.
+fn read_end<'a>(
+    older: &'a [u8],
+    newer: &'a [u8],
+    x: Coordinate,
+    y: Coordinate,
+    m: ParameterRead,
+    n: ParameterRead,
+    theta: ParameterRead,
+    t: ParameterRead,
+) -> Reading
+    ensures { λ r. ⌜ r ≡ endRead (now (older .entry) ++ now (newer .entry)) x y (intervalRead m) (intervalRead n) (intervalRead theta) t ⌝ }
+{
+    match t {
+        ParameterRead::Damaged => Reading::Damaged,
+        ParameterRead::Read { interval, count } => read_direction(
+            older,
+            newer,
+            x,
+            y,
+            interval_of(m),
+            interval_of(n),
+            interval_of(theta),
+            interval,
+            count,
+        ),
+    }
+}
+
+// The used parameters in order, and the direction, behind x and y.
+fn read_parameters<'a>(
+    older: &'a [u8],
+    newer: &'a [u8],
+    set: u8,
+    last: Last,
+    x: Coordinate,
+    y: Coordinate,
+    at: usize,
+) -> Reading
     requires { ⌜ at ≤ length (now older) + length (now newer) ⌝ }
-    ensures { λ r. ⌜ r ≡ withY x at (coordinateRead (last .y) (drop at (now (older .entry) ++ now (newer .entry)))) ⌝ }
+    ensures { λ r. ⌜ r ≡ restRead set last (now (older .entry) ++ now (newer .entry)) (withPlace x y at) ⌝ }
+{
+    let line = whole_line();
+    let start = ParameterRead::Read {
+        interval: line,
+        count: at,
+    };
+    let m = read_behind(older, newer, set, Direction::M, last.m, start);
+    let n = read_behind(older, newer, set, Direction::N, last.n, m);
+    let theta = read_behind(older, newer, set, Direction::Theta, last.theta, n);
+    let t = read_behind(older, newer, set, Direction::T, last.t, theta);
+    read_end(older, newer, x, y, m, n, theta, t)
+}
+
+// What stands behind x and y: the direction alone where the set has no parameter.
+fn read_rest<'a>(
+    older: &'a [u8],
+    newer: &'a [u8],
+    set: u8,
+    last: Last,
+    x: Coordinate,
+    y: Coordinate,
+    at: usize,
+) -> Reading
+    requires { ⌜ at ≤ length (now older) + length (now newer) ⌝ }
+    ensures { λ r. ⌜ r ≡ restRead set last (now (older .entry) ++ now (newer .entry)) (withPlace x y at) ⌝ }
+{
+    if set % 16 == 0 {
+        let line = whole_line();
+        return read_direction(older, newer, x, y, line, line, line, line, at);
+    }
+    read_parameters(older, newer, set, last, x, y, at)
+}
+
+// y and the rest, behind x.
+fn read_y<'a>(
+    older: &'a [u8],
+    newer: &'a [u8],
+    set: u8,
+    last: Last,
+    x: Coordinate,
+    at: usize,
+) -> Reading
+    requires { ⌜ at ≤ length (now older) + length (now newer) ⌝ }
+    ensures { λ r. ⌜ r ≡ restRead set last (now (older .entry) ++ now (newer .entry)) (withY x at (coordinateRead (last .y) (drop at (now (older .entry) ++ now (newer .entry))))) ⌝ }
 {
     match read_coordinate(older, newer, at, last.y) {
         CoordinateRead::Damaged => Reading::Damaged,
         CoordinateRead::Read {
             coordinate: y,
             count,
-        } => {
-            let line = whole_line();
-            let block = Block {
-                x,
-                y,
-                m: line,
-                n: line,
-                theta: line,
-                t: line,
-                dir: 0,
-            };
-            Reading::Read {
-                block,
-                count: at + count,
-            }
-        }
-    }
-}
-
-// The used parameters in order, behind x and y.
-fn read_parameters<'a>(
-    older: &'a [u8],
-    newer: &'a [u8],
-    set: u8,
-    last: Last,
-    known: Reading,
-) -> Reading
-    requires { ⌜ Inside (now older ++ now newer) known ⌝ }
-    ensures { λ r. ⌜ r ≡ addParameters set last (now (older .entry) ++ now (newer .entry)) parameters known ⌝ }
-{
-    let m = read_along(older, newer, set, last, Direction::M, known);
-    let n = read_along(older, newer, set, last, Direction::N, m);
-    let theta = read_along(older, newer, set, last, Direction::Theta, n);
-    read_along(older, newer, set, last, Direction::T, theta)
-}
-
-// The direction byte, behind the parameters.
-fn read_direction<'a>(older: &'a [u8], newer: &'a [u8], known: Reading) -> Reading
-    requires { ⌜ Inside (now older ++ now newer) known ⌝ }
-    ensures { λ r. ⌜ r ≡ addDirection (now (older .entry) ++ now (newer .entry)) known ⌝ }
-{
-    match known {
-        Reading::Damaged => Reading::Damaged,
-        Reading::Read { block, count } => {
-            if older.len() + newer.len() <= count {
-                return Reading::Damaged;
-            }
-            let mut b = block;
-            b.dir = byte_at(older, newer, count);
-            Reading::Read {
-                block: b,
-                count: count + 1,
-            }
-        }
+        } => read_rest(older, newer, set, last, x, y, at + count),
     }
 }
 
@@ -338,7 +383,11 @@ fn read_direction<'a>(older: &'a [u8], newer: &'a [u8], known: Reading) -> Readi
 pub(crate) fn read_block<'a>(older: &'a [u8], newer: &'a [u8], set: u8, last: Last) -> Reading
     ensures { λ r. ⌜ r ≡ decode set last (now (older .entry) ++ now (newer .entry)) ⌝ }
 {
-    let place = read_place(older, newer, last);
-    let all = read_parameters(older, newer, set, last, place);
-    read_direction(older, newer, all)
+    match read_coordinate(older, newer, 0, last.x) {
+        CoordinateRead::Damaged => Reading::Damaged,
+        CoordinateRead::Read {
+            coordinate: x,
+            count,
+        } => read_y(older, newer, set, last, x, count),
+    }
 }

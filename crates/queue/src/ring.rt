@@ -4,6 +4,7 @@ ghost use mathlib.Core.Path.{_≡_};
 ghost use mathlib.Core.List.{_++_};
 ghost use Prim.Native.Nat.{_+_, _^_, _≤_, _<_};
 ghost use lib.ListN.{length, getD, take};
+ghost use lib.Seq.{sets};
 ghost use Rattle.queue.specs.Ring.{partOf, olderRun, newerRun, stored, wrapped};
 
 // The bytes at an offset of the two runs: a part of one of them, to that run's end.
@@ -67,6 +68,28 @@ pub(crate) fn move_on(len: usize, from: usize, count: usize) -> usize
 
 // Stores the first `count` bytes of `source` from a position on, round the end.
 pub(crate) fn store(ring: &mut [u8], from: usize, source: &[u8], count: usize)
+    requires { ⌜ (from < length (now ring)) × (count ≤ length (now source)) ⌝ }
+    ensures { λ _. ⌜ now (ring .exit) ≡ stored (now (ring .entry)) from (take count (now (source .entry))) ⌝ }
+{
+    if count <= ring.len() - from {
+        store_straight(ring, from, source, count);
+        return;
+    }
+    store_round(ring, from, source, count);
+}
+
+// The same where the end is not reached.
+fn store_straight(ring: &mut [u8], from: usize, source: &[u8], count: usize)
+    requires { ⌜ (from + count ≤ length (now ring)) × (count ≤ length (now source)) ⌝ }
+    ensures { λ _. ⌜ now (ring .exit) ≡ sets (now (ring .entry)) from (take count (now (source .entry))) ⌝ }
+{
+    for i in 0..count {
+        ring[from + i] = source[i];
+    }
+}
+
+// The same in general.
+fn store_round(ring: &mut [u8], from: usize, source: &[u8], count: usize)
     requires { ⌜ (from < length (now ring)) × (count ≤ length (now source)) ⌝ }
     ensures { λ _. ⌜ now (ring .exit) ≡ stored (now (ring .entry)) from (take count (now (source .entry))) ⌝ }
 {

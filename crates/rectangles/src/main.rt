@@ -93,14 +93,34 @@ fn say_characters(cells: &[u64], taken: u64) {
     }
 }
 
-fn say_byte(cell: u64, taken: u64) {
-    io::print_decimal(1, image::reading_byte(image::read_cell(cell, taken)) as u64);
+fn say_byte(byte: u8) {
+    io::print_decimal(1, byte as u64);
 }
 
-fn say_bytes(cells: &[u64], taken: u64) {
-    for i in 0..cells.len() {
-        say_byte(cells[i], taken);
+fn say_bytes(bytes: &[u8]) {
+    for i in 0..bytes.len() {
+        say_byte(bytes[i]);
     }
+}
+
+fn draw(cells: &[u64], taken: u64, out: &mut [u8]) {
+    if image::draw(cells, taken, out) {
+        say(b" drawn ");
+    } else {
+        say(b" kept ");
+    }
+    say_bytes(out);
+}
+
+// Into as many bytes as cells, and into one byte, which most cells do not fit.
+fn draw_twice(cells: &[u64], taken: u64) {
+    let mut bytes = [9u8; 40];
+    let mut one = [9u8; 1];
+    let n = cells.len();
+    if n <= 40 {
+        draw(cells, taken, &mut bytes[0..n]);
+    }
+    draw(cells, taken, &mut one[0..1]);
 }
 
 fn paint(cells: &mut [u64], width: u32, height: u32, r: PixelRange, op: Op) {
@@ -139,8 +159,7 @@ fn show(cells: &[u64], taken: u64) {
     say_cells(cells);
     say(b"\n");
     say_characters(cells, taken);
-    say(b" ");
-    say_bytes(cells, taken);
+    draw_twice(cells, taken);
     say(b"\n");
 }
 

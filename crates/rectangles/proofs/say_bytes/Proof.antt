@@ -7,16 +7,13 @@ use Rattle.rectangles.proofs.say_bytes.Statement.{statement}
 use Rattle.rectangles.proofs.say_bytes.Tie as tie
 
 abbrev Inv-loop : tie.InvT-loop
-Inv-loop cells taken i₀ i-end i = (i-end ≡ length cells) × (i ≤ i-end)
+Inv-loop bytes i₀ i-end i = (i-end ≡ length bytes) × (i ≤ i-end)
 
 abbrev μ-loop : tie.MeasureT-loop
-μ-loop cells taken i₀ i-end i = i-end - i
+μ-loop bytes i₀ i-end i = i-end - i
 
 loop-holds : tie.Need-loop-holds Inv-loop μ-loop
 loop-holds c = search needs
-
-mul-say-byte : tie.Need-mul-say-byte Inv-loop μ-loop
-mul-say-byte c = search needs
 
 shared-slice-read-say-byte : tie.Need-shared-slice-read-say-byte Inv-loop μ-loop
 shared-slice-read-say-byte c = search needs
@@ -43,7 +40,6 @@ say-bytes-spec =
     Inv-loop
     μ-loop
     loop-holds
-    mul-say-byte
     shared-slice-read-say-byte
     say-byte-requires
     add-i

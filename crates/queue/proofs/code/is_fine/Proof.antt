@@ -12,10 +12,7 @@ is-used-requires c κs = search needs
 returns : tie.Need-returns
 returns c =
     let a = c .before .before .args in
-    fine-unused (a .set) (a .b) (a .d) (sym (c .before .is-used .ensures) ∙ denied _ (c .if1 .taken))
-
-parameter-of-requires : tie.Need-parameter-of-requires
-parameter-of-requires c κs = search needs
+    fine-unused (a .set) (a .d) (a .p) (sym (c .before .is-used .ensures) ∙ denied _ (c .if1 .taken))
 
 is-integer-requires : tie.Need-is-integer-requires
 is-integer-requires c κs = search needs
@@ -25,17 +22,8 @@ is-legal-requires c κs = search needs
 
 returns-2 : tie.Need-returns-2
 returns-2 c =
-    let a = c .before .before .before .before .before .args in
-    fine-used (a .set) (a .b) (a .d) (c .before .before .parameter-of .result) (c .before .is-integer .result) (c .is-legal .result)
-    (sym (c .before .before .before .before .is-used .ensures) ∙ granted _ (c .before .before .before .if1 .left)) (c .before .before .parameter-of .ensures) (c .before .is-integer .ensures) (c .is-legal .ensures)
+    let a = c .before .before .before .before .args in
+    fine-used (a .set) (a .d) (a .p) (c .before .is-integer .result) (c .is-legal .result) (sym (c .before .before .before .is-used .ensures) ∙ granted _ (c .before .before .if1 .left)) (c .before .is-integer .ensures) (c .is-legal .ensures)
 
 pub is-fine-spec : {M : Type 1} → statement M
-is-fine-spec =
-    tie.close
-    (tie.spec
-    is-used-requires
-    returns
-    parameter-of-requires
-    is-integer-requires
-    is-legal-requires
-    returns-2)
+is-fine-spec = tie.close (tie.spec is-used-requires returns is-integer-requires is-legal-requires returns-2)

@@ -1,32 +1,39 @@
 -- `read_block` meets its contract: its parts in order. Assumes nothing.
-use mathlib.Core.Path.{_∙_}
+use mathlib.Core.Path.{sym, _∙_}
 use mathlib.Core.List.{_++_}
-use Rattle.queue.specs.Directions.{parameters}
-use Rattle.queue.specs.Decode.{decode}
-use Rattle.queue.proofs.BlockReading.{place-inside, all-inside}
+use native.Mathlib.Omega.{arith}
+use lib.ListN.{length-append}
+use Rattle.queue.proofs.BlockReading.{place-none, place-some, coordinate-inside}
 use borrow.Author.Needs.{needs}
 use Rattle.queue.proofs.read.read_block.Statement.{statement}
 use Rattle.queue.proofs.read.read_block.Tie as tie
 
-read-place-requires : tie.Need-read-place-requires
-read-place-requires c κs = search needs
+read-coordinate-requires : tie.Need-read-coordinate-requires
+read-coordinate-requires c κs = search needs
 
-read-parameters-requires : tie.Need-read-parameters-requires
-read-parameters-requires c κs =
-    let a = c .before .before .before .args in
-    rw (c .read-place .ensures) (place-inside (a .last) (a .older .now ++ a .newer .now))
+enum-told : tie.Need-enum-told
+enum-told c = search needs
 
-read-direction-requires : tie.Need-read-direction-requires
-read-direction-requires c κs =
-    let a = c .before .before .before .before .args in
+enum-known-x : tie.Need-enum-known-x
+enum-known-x c = search needs
+
+read-y-requires : tie.Need-read-y-requires
+read-y-requires c κs =
+    let a = c .before .before .before .before .before .before .args in
     let s = a .older .now ++ a .newer .now in
-    rw (c .read-parameters .ensures, c .before .read-place .ensures) (all-inside (a .set) (a .last) s parameters _ (place-inside (a .last) s))
+    let g = c .before .x .given in
+    omega (arith, coordinate-inside (a .last .x) s (g .0 .0) (g .0 .1 .0) (sym (g .1) ∙ c .before .before .before .read-coordinate .ensures), length-append (a .older .now) (a .newer .now))
 
 returns : tie.Need-returns
-unfolding decode
-returns c = c .read-direction .ensures ∙ rw (c .before .read-parameters .ensures, c .before .before .read-place .ensures)
+returns c =
+    let a = c .before .before .before .before .before .args in
+    place-none (a .set) (a .last) (a .older .now ++ a .newer .now) (sym (c .enum-told .given .1) ∙ c .before .before .read-coordinate .ensures)
+
+returns-2 : tie.Need-returns-2
+returns-2 c =
+    let a = c .before .before .before .before .before .before .before .args in
+    let g = c .before .before .x .given in
+    c .read-y .ensures ∙ place-some (a .set) (a .last) (a .older .now ++ a .newer .now) (g .0 .0) (g .0 .1 .0) (sym (g .1) ∙ c .before .before .before .before .read-coordinate .ensures)
 
 pub read-block-spec : {M : Type 1} → statement M
-read-block-spec =
-    tie.close
-    (tie.spec read-place-requires read-parameters-requires read-direction-requires returns)
+read-block-spec = tie.close (tie.spec read-coordinate-requires enum-told enum-known-x read-y-requires returns returns-2)

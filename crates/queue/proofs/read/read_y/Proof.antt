@@ -1,10 +1,11 @@
 -- `read_y` meets its contract. Assumes nothing.
-use mathlib.Core.Path.{sym, ap, _∙_}
+use mathlib.Core.Path.{ap, sym, _∙_}
 use mathlib.Core.List.{_++_}
 use native.Mathlib.Omega.{arith}
 use lib.ListN.{drop, length-append, length-drop}
-use Rattle.queue.specs.Decode.{withY}
-use Rattle.queue.proofs.BlockReading.{coordinate-inside}
+use Rattle.queue.specs.declared.read.CoordinateRead.{CoordinateRead}
+use Rattle.queue.specs.Decode.{withY, restRead}
+use Rattle.queue.proofs.BlockReading.{coordinate-inside, y-none}
 use borrow.Author.Needs.{needs}
 use Rattle.queue.proofs.read.read_y.Statement.{statement}
 use Rattle.queue.proofs.read.read_y.Tie as tie
@@ -18,32 +19,31 @@ enum-told c = search needs
 enum-known-y : tie.Need-enum-known-y
 enum-known-y c = search needs
 
-whole-line-requires : tie.Need-whole-line-requires
-whole-line-requires c κs = search needs
-
-add-t12 : tie.Need-add-t12
-add-t12 c =
-    let a = c .before .before .before .before .before .before .before .args in
+add-read-rest : tie.Need-add-read-rest
+add-read-rest c =
+    let a = c .before .before .before .before .before .before .args in
     let s = a .older .now ++ a .newer .now in
-    let g = c .before .before .y .given in
-    omega (arith, coordinate-inside (a .last .y) (drop (a .at) s) (g .0 .0) (g .0 .1 .0) (sym (g .1) ∙ c .before .before .before .before .read-coordinate .ensures), length-drop (a .at) s, length-append (a .older .now) (a .newer .now))
+    let g = c .before .y .given in
+    omega (arith, c .before .before .before .before .before .before, coordinate-inside (a .last .y) (drop (a .at) s) (g .0 .0) (g .0 .1 .0) (sym (g .1) ∙ c .before .before .before .read-coordinate .ensures), length-drop (a .at) s, length-append (a .older .now) (a .newer .now))
+
+read-rest-requires : tie.Need-read-rest-requires
+read-rest-requires c κs =
+    let a = c .before .before .before .before .before .before .args in
+    let s = a .older .now ++ a .newer .now in
+    let g = c .before .y .given in
+    omega (arith, c .before .before .before .before .before .before .pre, coordinate-inside (a .last .y) (drop (a .at) s) (g .0 .0) (g .0 .1 .0) (sym (g .1) ∙ c .before .before .before .read-coordinate .ensures), length-drop (a .at) s, length-append (a .older .now) (a .newer .now))
 
 returns : tie.Need-returns
-returns c = ap (withY (c .before .before .before .before .before .args .x) (c .before .before .before .before .before .args .at)) (sym (c .enum-told .given .1) ∙ c .before .before .read-coordinate .ensures)
+returns c =
+    let a = c .before .before .before .before .before .args in
+    y-none (a .set) (a .last) (a .older .now ++ a .newer .now) (a .x) (a .at) _ (sym (c .before .before .read-coordinate .ensures) ∙ c .enum-told .given .1)
 
 returns-2 : tie.Need-returns-2
 returns-2 c =
     let a = c .before .before .before .before .before .before .before .args in
-    rw (c .whole-line .ensures) (ap (withY (a .x) (a .at)) (sym (c .before .before .y .given .1) ∙ c .before .before .before .before .read-coordinate .ensures))
+    let s = a .older .now ++ a .newer .now in
+    c .read-rest .ensures
+    ∙ ap (λ (r : CoordinateRead). restRead (a .set) (a .last) s (withY (a .x) (a .at) r)) (sym (c .before .before .y .given .1) ∙ c .before .before .before .before .read-coordinate .ensures)
 
 pub read-y-spec : {M : Type 1} → statement M
-read-y-spec =
-    tie.close
-    (tie.spec
-    read-coordinate-requires
-    enum-told
-    enum-known-y
-    whole-line-requires
-    add-t12
-    returns
-    returns-2)
+read-y-spec = tie.close (tie.spec read-coordinate-requires enum-told enum-known-y add-read-rest read-rest-requires returns returns-2)
