@@ -1,6 +1,7 @@
 -- Laws of legal pictures and undamaged blocks. Assumes nothing.
 use mathlib.Core.Path.{_≡_, refl, sym, ap, _∙_}
-use mathlib.Core.Bool.{Bool, true, false, _&&_}
+use mathlib.Core.Bool.{Bool, true, false, _&&_, not, _||_, false≢true}
+use mathlib.Core.List.{List}
 use Prim.Native.Nat.{ℕ, _≤_}
 use lib.Dec.{leb, eqb}
 use lib.ListN.{length}
@@ -13,14 +14,22 @@ use Rattle.coordinate.specs.declared.Coordinate.{Coordinate}
 use Rattle.coordinate.specs.Axis.{ordinaryFloor, inside}
 use Rattle.coordinate.specs.Lone.{legal, insideAsked}
 use Rattle.coordinate.proofs.LoneLaws.{inside-refused, inside-answered}
-use Rattle.interval.specs.Bounds.{legalInterval}
+use Rattle.interval.specs.Bounds.{legalInterval, wholeBound, legalBounds, sameInterval}
+use Rattle.image.specs.declared.PixelRange.{PixelRange}
+use Rattle.image.specs.declared.Seen.{Seen}
+use Rattle.image.specs.Range.{rectangleOf}
+use Rattle.image.specs.Painting.{someSeen}
+use lib.Ieee.{Float, nan, inf, fin, eq, le, lt}
+use Rattle.interval.specs.declared.Interval.{Interval}
+use Rattle.queue.specs.Block.{wholeLine}
+use Rattle.image.specs.declared.Kind.the-variants as K
 use Rattle.queue.specs.declared.Block.{Block}
 use Rattle.queue.specs.declared.directions.DirectionAt.{DirectionAt}
 use Rattle.queue.specs.declared.directions.DirectionAt.the-variants as A
 use Rattle.queue.specs.declared.directions.Direction.{Direction}
 use Rattle.queue.specs.Directions.{directions}
 use Rattle.decide.specs.declared.Picture.{Picture}
-use Rattle.decide.specs.Damage.{legalSide, legalPicture, directionOf, placeRight, cuttable, directionRight, parametersRight, undamaged, sound}
+use Rattle.decide.specs.Damage.{legalSide, legalPicture, directionOf, placeRight, cuttable, directionRight, parametersRight, undamaged, damageSeen, sound}
 
 -- BY THE TESTS THAT THE CODE MAKES
 
@@ -32,6 +41,10 @@ pub undamaged-as : (p : Picture) (b : Block) (x y d t : Bool) → x ≡ placeRig
     → d ≡ directionRight p b (directionOf p b) → t ≡ parametersRight b → (eqb (b .x .rank) (b .y .rank) && x && y && d && t) ≡ undamaged p b
 unfolding undamaged
 undamaged-as p b x y d t e f g h = rw (e, f, g, h)
+
+pub damage-as : (p : Picture) (b : Block) (cells : List ℕ) (r : PixelRange) (s : Seen) → r ≡ rectangleOf (b .x) (b .y) (p .width) (p .height)
+    → s ≡ someSeen (p .width) (p .height) r K.Damaged cells → s ≡ damageSeen p b cells
+damage-as p b cells r s e f = f ∙ rw e
 
 -- a coordinate's answer, as yes or no
 abbrev pub isYes : Whether → Bool
@@ -154,3 +167,18 @@ is-sound p b e = record { picture = legal-picture p (and-left (legalPicture p) (
 -- another undamaged block of the same picture
 pub sound-from : (p : Picture) (b d : Block) → sound p b ≡ true → undamaged p d ≡ true → sound p d ≡ true
 sound-from p b d e f = and-both (legalPicture p) (undamaged p d) (and-left (legalPicture p) (undamaged p b) e) f
+
+-- the whole line is legal for every parameter
+pub line-legal : (x : Interval) (integer : Bool) → sameInterval x wholeLine ≡ true → legalInterval x integer ≡ true
+unfolding sameInterval legalInterval eq le lt wholeBound
+line-legal x integer h = go (x .lower) (x .upper) integer h
+  where
+    go : (a b : Float) (k : Bool) → (eq a (inf true) && eq b (inf false)) ≡ true → (legalBounds a b && (not k || (wholeBound a && wholeBound b))) ≡ true
+    go nan b k h = absurd (false≢true h)
+    go (fin s m e) b k h = absurd (false≢true h)
+    go (inf false) b k h = absurd (false≢true h)
+    go (inf true) nan k h = absurd (false≢true h)
+    go (inf true) (fin s m e) k h = absurd (false≢true h)
+    go (inf true) (inf true) k h = absurd (false≢true h)
+    go (inf true) (inf false) true h = refl
+    go (inf true) (inf false) false h = refl

@@ -1,22 +1,22 @@
 -- Laws of the children's array: what is listed child by child is the list. Assumes nothing.
 use mathlib.Core.Path.{_≡_, refl, sym, ap, _∙_}
-use mathlib.Core.Bool.{Bool, true, false, cond, _&&_, _||_}
+use mathlib.Core.Bool.{Bool, true, false, _&&_, _||_}
 use mathlib.Core.List.{List, [], _∷_, map}
-use Prim.Native.Nat.{ℕ, suc, _+_, _-_, _≤_, _<_}
+use Prim.Native.Nat.{ℕ, suc, _-_, _≤_}
 use native.Mathlib.Omega.{arith}
 use lib.Dec.{leb, ltb}
-use lib.ListN.{length, set, length-append}
+use lib.ListN.{length, length-append}
 use lib.ListN as L
-use borrow.Author.Tests.{ltb-true, ltb-false, lt-ltb, le-ltb, le-leb, lt-leb}
-use Rattle.base.proofs.Test.{cases, by-test, cond-yes, cond-no}
+use borrow.Author.Tests.{ltb-true, ltb-false, le-leb, lt-leb}
+use Rattle.base.proofs.Test.{cases, by-test}
 use Rattle.coordinate.specs.declared.Coordinate.{Coordinate}
 use Rattle.coordinate.specs.declared.Halved.{Halved}
 use Rattle.coordinate.specs.declared.Halved.the-variants as H
 use Rattle.refusal.specs.declared.Refusal.{Refusal}
-use Rattle.coordinate.specs.Axis.{ordinaryFloor, aboveFloor}
+use Rattle.coordinate.specs.Axis.{ordinaryFloor, aboveFloor, inside}
 use Rattle.coordinate.specs.Lone.{legal, lowHalf, highHalf, halvesAsked}
 use Rattle.coordinate.proofs.LoneLaws.{halves-of-inside}
-use Rattle.coordinate.proofs.PixelLaws.{halves-in-range, ranged}
+use Rattle.coordinate.proofs.PixelLaws.{halves-in-range, low-inside, ranged}
 use Rattle.interval.specs.declared.Interval.{Interval}
 use Rattle.interval.specs.declared.Pieces.{Pieces}
 use Rattle.interval.specs.Answers.{piecesFrom, piecesAt, piecesOf}
@@ -32,19 +32,10 @@ use Rattle.queue.specs.declared.directions.DirectionAt.the-variants as A
 use Rattle.queue.specs.Block.{isInteger, parameterOf, withParameter}
 use Rattle.decide.specs.declared.Picture.{Picture}
 use Rattle.decide.specs.declared.children.Children.{Children}
+use Rattle.decide.specs.declared.children.Halves.{Halves}
 use Rattle.decide.specs.Damage.{sound, directionOf, directionRight, placeRight}
-use Rattle.decide.specs.Children.{movedTo, quartersOf, beginsInside, keptInside, childrenXY, childrenCut, childrenAlong, childrenOf, listed, withChild, isKept, withQuarter}
+use Rattle.decide.specs.Children.{movedTo, quartersOf, beginsInside, keptInside, childrenXY, childrenCut, childrenAlong, childrenOf, listed, isKept, listedIf, quartersKept}
 use Rattle.decide.proofs.DamageLaws.{Placed, is-sound}
-
--- ONE CHILD MORE
-
-pub child-room : (k : Children) (c : Block) → k .count < 4 → record { at = set (k .at) (k .count) c; count = k .count + 1 } ≡ withChild k c
-unfolding withChild
-child-room k c h = sym (cond-yes (ltb (k .count) 4) _ _ (lt-ltb (k .count) 4 h))
-
-pub child-full : (k : Children) (c : Block) → 4 ≤ k .count → k ≡ withChild k c
-unfolding withChild
-child-full k c h = sym (cond-no (ltb (k .count) 4) _ _ (le-ltb (k .count) 4 h))
 
 -- THE QUARTERS
 
@@ -55,71 +46,27 @@ halves-known c h l u e f g = (cc, cc)
 pub halves-not-refused : {P : Type 0} (c : Coordinate) (h : Halved) (r : Refusal) → halvesAsked ordinaryFloor c ≡ H.Halves (lowHalf c) (highHalf c) → h ≡ halvesAsked ordinaryFloor c → h ≡ H.Refused r → P
 halves-not-refused c h r e f g = let z : _≡_ {A = ℕ} 0 1 = cc in absurd (omega arith)
 
-pub kept-as : (p : Picture) (b : Block) (x y : Coordinate) (s t : Bool) → legal ordinaryFloor x ≡ true → legal ordinaryFloor y ≡ true
-    → s ≡ placeRight (p .width) x → t ≡ placeRight (p .height) y → (leb (b .x .rank) 48 || (s && t)) ≡ isKept p b x y
-kept-as p b x y s t k l e f = rw (e, f, k, l)
+pub kept-as : (rank : ℕ) (c : Coordinate) (side : ℕ) (t : Bool) → legal ordinaryFloor c ≡ true → t ≡ placeRight side c → (leb rank 48 || t) ≡ isKept rank c side
+kept-as rank c side t l e = rw (e, l)
 
-pub quarter-kept : (p : Picture) (k : Children) (b : Block) (x y : Coordinate) (r : Children) (t : Bool) → t ≡ isKept p b x y → t ≡ true → r ≡ withChild k (movedTo b x y)
-    → r ≡ withQuarter p k b x y
-unfolding withQuarter
-quarter-kept p k b x y r t e f g = g ∙ sym (cond-yes (isKept p b x y) _ _ (sym e ∙ f))
+-- the array, by the halves that are listed
+module _ (b : Block) (x y : Halves) (s t : Bool) (q r o w : Block)
+    (e : q ≡ movedTo b (x .low) (y .low)) (f : r ≡ movedTo b (x .high) (y .low)) (g : o ≡ movedTo b (x .low) (y .high)) (h : w ≡ movedTo b (x .high) (y .high)) where
+  pub list-four : s ≡ true → t ≡ true → record { at = q ∷ r ∷ o ∷ w ∷ []; count = 4 } ≡ listed b (quartersKept b x y s t)
+  unfolding quartersKept
+  list-four i j = rw (i, j, e, f, g, h)
 
-pub quarter-left-out : (p : Picture) (k : Children) (b : Block) (x y : Coordinate) (t : Bool) → t ≡ isKept p b x y → t ≡ false → k ≡ withQuarter p k b x y
-unfolding withQuarter
-quarter-left-out p k b x y t e f = sym (cond-no (isKept p b x y) _ _ (sym e ∙ f))
+  pub list-right : (k : Children) → s ≡ true → t ≡ false → k ≡ listed b (q ∷ r ∷ []) → k ≡ listed b (quartersKept b x y s t)
+  unfolding quartersKept
+  list-right k i j l = l ∙ rw (i, j, e, f)
 
--- four quarters, each listed or not, in the array and in the list
-abbrev added : Bool → Block → Children → Children
-added t q k = cond t (withChild k q) k
+  pub list-above : (k : Children) → s ≡ false → t ≡ true → k ≡ listed b (q ∷ o ∷ []) → k ≡ listed b (quartersKept b x y s t)
+  unfolding quartersKept
+  list-above k i j l = l ∙ rw (i, j, e, g)
 
-abbrev listedIf : Bool → Block → List Block → List Block
-listedIf t q l = cond t (q ∷ l) l
-
-four-of : (b : Block) (s t u v : Bool) (q r o w : Block)
-    → added v w (added u o (added t r (added s q (listed b [])))) ≡ listed b (listedIf s q (listedIf t r (listedIf u o (listedIf v w []))))
-unfolding withChild
-four-of b true true true true q r o w = refl
-four-of b true true true false q r o w = refl
-four-of b true true false true q r o w = refl
-four-of b true true false false q r o w = refl
-four-of b true false true true q r o w = refl
-four-of b true false true false q r o w = refl
-four-of b true false false true q r o w = refl
-four-of b true false false false q r o w = refl
-four-of b false true true true q r o w = refl
-four-of b false true true false q r o w = refl
-four-of b false true false true q r o w = refl
-four-of b false true false false q r o w = refl
-four-of b false false true true q r o w = refl
-four-of b false false true false q r o w = refl
-four-of b false false false true q r o w = refl
-four-of b false false false false q r o w = refl
-
-module _ (p : Picture) (b : Block) where
-  abbrev kept : Coordinate → Coordinate → List Block → List Block
-  kept x y l = listedIf (isKept p b x y) (movedTo b x y) l
-
-  -- the quarters that are listed, one by one
-  kept-quarters : kept (lowHalf (b .x)) (lowHalf (b .y)) (kept (highHalf (b .x)) (lowHalf (b .y)) (kept (lowHalf (b .x)) (highHalf (b .y)) (kept (highHalf (b .x)) (highHalf (b .y)) [])))
-      ≡ childrenXY p b
-  unfolding childrenXY keptInside quartersOf
-  kept-quarters =
-      cases (ltb 48 (b .x .rank))
-      (λ e. (let h = ltb-true 48 (b .x .rank) e in rw (e, lt-leb (b .x .rank) 48 h)))
-      (λ e. (let h = ltb-false 48 (b .x .rank) e in rw (e, le-leb (b .x .rank) 48 h)))
-
-  pub quarters-listed : (x₀ x₁ y₀ y₁ : Coordinate) (k₀ k₁ k₂ k₃ k₄ : Children) → x₀ ≡ lowHalf (b .x) → x₁ ≡ highHalf (b .x) → y₀ ≡ lowHalf (b .y) → y₁ ≡ highHalf (b .y)
-      → k₀ ≡ listed b [] → k₁ ≡ withQuarter p k₀ b x₀ y₀ → k₂ ≡ withQuarter p k₁ b x₁ y₀ → k₃ ≡ withQuarter p k₂ b x₀ y₁ → k₄ ≡ withQuarter p k₃ b x₁ y₁
-      → k₄ ≡ listed b (childrenXY p b)
-  unfolding withQuarter
-  quarters-listed x₀ x₁ y₀ y₁ k₀ k₁ k₂ k₃ k₄ a c d e f g h i j =
-      let x = lowHalf (b .x) in
-      let x′ = highHalf (b .x) in
-      let y = lowHalf (b .y) in
-      let y′ = highHalf (b .y) in
-      j ∙ rw (i, h, g, f, a, c, d, e)
-      (four-of b (isKept p b x y) (isKept p b x′ y) (isKept p b x y′) (isKept p b x′ y′) (movedTo b x y) (movedTo b x′ y) (movedTo b x y′) (movedTo b x′ y′)
-      ∙ ap (listed b) kept-quarters)
+  pub list-first : (k : Children) → s ≡ false → t ≡ false → k ≡ listed b (q ∷ []) → k ≡ listed b (quartersKept b x y s t)
+  unfolding quartersKept
+  list-first k i j l = l ∙ rw (i, j, e)
 
 -- the halves of a sound block above the floor
 pub halves-sound : (p : Picture) (b : Block) → sound p b ≡ true → aboveFloor ordinaryFloor (b .x .rank) ≡ true
@@ -152,6 +99,43 @@ halves-legal p b ok up =
     let y = half-legal (p .height) (b .y) (s .picture .height-most) (s .block .y) (rw (← s .block .ranks) up) in
     record { x-low = x .0; x-high = x .1; y-low = y .0; y-high = y .1 }
 
+-- a low half begins where its whole begins
+pub low-begins : (side : ℕ) (c : Coordinate) → Placed side c → aboveFloor ordinaryFloor (c .rank) ≡ true → inside side (lowHalf c .rank) (lowHalf c .index) ≡ true
+low-begins side c l up =
+    let k = ltb-true ordinaryFloor (c .rank) up in
+    let e : suc (c .rank - 1) ≡ c .rank = omega arith in
+    low-inside side (c .rank - 1) (c .index) ∙ rw e (l .inside-side)
+
+-- so the quarters that begin inside are those whose high halves do
+inside-by : (q r o w : Block) (s t : Bool) → q ∷ listedIf s r (listedIf t o (listedIf (s && t) w [])) ≡ q ∷ listedIf (s && true) r (listedIf t o (listedIf (s && t) w []))
+inside-by q r o w true t = refl
+inside-by q r o w false t = refl
+
+module _ (p : Picture) (b : Block) (ok : sound p b ≡ true) (up : aboveFloor ordinaryFloor (b .x .rank) ≡ true) where
+  abbrev xs : Halves
+  xs = record { low = lowHalf (b .x); high = highHalf (b .x) }
+
+  abbrev ys : Halves
+  ys = record { low = lowHalf (b .y); high = highHalf (b .y) }
+
+  kept-quarters : quartersKept b xs ys (isKept (b .x .rank) (highHalf (b .x)) (p .width)) (isKept (b .x .rank) (highHalf (b .y)) (p .height)) ≡ childrenXY p b
+  unfolding quartersKept childrenXY keptInside quartersOf
+  kept-quarters =
+      let s = is-sound p b ok .block in
+      let i = low-begins (p .width) (b .x) (s .x) up in
+      let j = low-begins (p .height) (b .y) (s .y) (rw (← s .ranks) up) in
+      let u = inside (p .width) (highHalf (b .x) .rank) (highHalf (b .x) .index) in
+      let v = inside (p .height) (highHalf (b .y) .rank) (highHalf (b .y) .index) in
+      cases (ltb 48 (b .x .rank))
+      (λ e. (let h = ltb-true 48 (b .x .rank) e in rw (e, lt-leb (b .x .rank) 48 h, i, j)
+      (inside-by (movedTo b (xs .low) (ys .low)) (movedTo b (xs .high) (ys .low)) (movedTo b (xs .low) (ys .high)) (movedTo b (xs .high) (ys .high)) u v)))
+      (λ e. (let h = ltb-false 48 (b .x .rank) e in rw (e, le-leb (b .x .rank) 48 h)))
+
+  pub quarters-listed : (x y : Halves) (s t : Bool) (k : Children) → (x .low ≡ lowHalf (b .x)) × (x .high ≡ highHalf (b .x)) → (y .low ≡ lowHalf (b .y)) × (y .high ≡ highHalf (b .y))
+      → s ≡ isKept (b .x .rank) (x .high) (p .width) → t ≡ isKept (b .x .rank) (y .high) (p .height) → k ≡ listed b (quartersKept b x y s t) → k ≡ listed b (childrenXY p b)
+  unfolding quartersKept
+  quarters-listed x y s t k e f g h i = i ∙ rw (g, h, e .0, e .1, f .0, f .1) (ap (listed b) kept-quarters)
+
 -- THE PIECES
 
 -- a later cut has one to three pieces, on every interval
@@ -182,18 +166,6 @@ pieces-listed b d x i a v e f h g k =
     let l = laterCut (putInterval (parameterOf b d)) (isInteger d) in
     let j : a ≡ piecesFrom l = g ∙ rw (e, f, h) in
     ap (λ (m : List Interval). listed b (map (withParameter b d) m)) (ap piecesOf (sym k ∙ j) ∙ pieces-back l (later-cut-count (putInterval (parameterOf b d)) (isInteger d) .1))
-
-pub one-piece : (b c : Block) (k₀ k₁ : Children) → k₀ ≡ listed b [] → k₁ ≡ withChild k₀ c → k₁ ≡ listed b (c ∷ [])
-unfolding withChild
-one-piece b c k₀ k₁ e f = f ∙ rw e
-
-pub two-pieces : (b c d : Block) (k₀ k₁ k₂ : Children) → k₀ ≡ listed b [] → k₁ ≡ withChild k₀ c → k₂ ≡ withChild k₁ d → k₂ ≡ listed b (c ∷ d ∷ [])
-unfolding withChild
-two-pieces b c d k₀ k₁ k₂ e f g = g ∙ rw (f, e)
-
-pub three-pieces : (b c d o : Block) (k₀ k₁ k₂ k₃ : Children) → k₀ ≡ listed b [] → k₁ ≡ withChild k₀ c → k₂ ≡ withChild k₁ d → k₃ ≡ withChild k₂ o → k₃ ≡ listed b (c ∷ d ∷ o ∷ [])
-unfolding withChild
-three-pieces b c d o k₀ k₁ k₂ k₃ e f g h = h ∙ rw (g, f, e)
 
 -- ALL OF THEM
 

@@ -4,7 +4,7 @@ use mathlib.Core.Bool.{Bool, true, false, _&&_}
 use mathlib.Core.List.{List}
 use Prim.Native.Nat.{ℕ, suc, _+_, _-_, _%_, _≤_, _<_}
 use native.Mathlib.Omega.{arith}
-use native.Mathlib.Nat.{mod-lt, add-zero}
+use native.Mathlib.Nat.{mod-lt, mod-eq-of-lt, mod-eq-sub-mod, add-zero}
 use lib.ListN.{length}
 use borrow.Author.Tests.{le-leb, lt-leb}
 use Rattle.refusal.specs.declared.Whether.{Whether}
@@ -20,9 +20,10 @@ use Rattle.queue.specs.Directions.{directions, directionAt}
 use Rattle.decide.specs.declared.Picture.{Picture}
 use Rattle.decide.specs.declared.turn.Found.{Found}
 use Rattle.decide.specs.declared.turn.Found.the-variants as F
+use Rattle.decide.specs.declared.turn.Turned.{Turned}
 use Rattle.decide.specs.declared.turn.Turned.the-variants as T
 use Rattle.decide.specs.Damage.{directionOf}
-use Rattle.decide.specs.Turn.{openLimit, startOf, splitsAt, subdivisibleAlong, searchedFrom, searched, turnedTo, turnedBy, turned}
+use Rattle.decide.specs.Turn.{openLimit, startOf, splitsAt, subdivisibleAlong, searchedFrom, searched, turnedTo, turnedBy, turnedFound, turned}
 use Rattle.decide.proofs.DamageLaws.{isYes}
 
 -- BY THE TESTS THAT THE CODE MAKES
@@ -56,37 +57,48 @@ along-as p c at a v r e f g = g ∙ ap (subdivisibleAlong c) (sym f ∙ e)
 
 -- THE SEARCH
 
-module _ (ds : List Direction) (c : Block) (start n i : ℕ) (same : n ≡ length ds) where
-  pub search-below : i < n → (start + i) % n < n
-  search-below h = mod-lt (start + i) (omega arith)
+-- a place round the end of the list
+pub round-small : (at n : ℕ) → at < n → at ≡ at % n
+round-small at n h = sym (mod-eq-of-lt h)
+
+pub round-once : (at n : ℕ) → n ≤ at → at - n < n → at - n ≡ at % n
+round-once at n h k = sym (mod-eq-sub-mod h ∙ mod-eq-of-lt k)
+
+pub search-end : (ds : List Direction) (c : Block) (start n i : ℕ) → n ≤ i → F.Nothing ≡ searchedFrom ds c (n - i) (start + i)
+unfolding searchedFrom
+search-end ds c start n i h = let f : n - i ≡ 0 = omega arith in rw f
+
+module _ (ds : List Direction) (c : Block) (start n i at : ℕ) (same : n ≡ length ds) (here : at ≡ (start + i) % n) (h : i < n) where
+  pub search-below : at < n
+  search-below = rw here (mod-lt (start + i) (omega arith))
 
   -- the search from here on, one direction further
-  pub search-on : i < n → subdivisibleAlong c (directionAt ds ((start + i) % n)) ≡ false → searchedFrom ds c (n - (i + 1)) (start + (i + 1)) ≡ searchedFrom ds c (n - i) (start + i)
+  pub search-on : subdivisibleAlong c (directionAt ds at) ≡ false → searchedFrom ds c (n - (i + 1)) (start + (i + 1)) ≡ searchedFrom ds c (n - i) (start + i)
   unfolding searchedFrom
-  search-on h e =
+  search-on e =
       let f : n - i ≡ suc (n - (i + 1)) = omega arith in
       let g : start + (i + 1) ≡ start + i + 1 = omega arith in
-      rw (f, g, ← same, e)
+      let e′ : subdivisibleAlong c (directionAt ds ((start + i) % n)) ≡ false = rw (← here) e in
+      rw (f, g, ← same, e′)
 
-  pub search-found : i < n → subdivisibleAlong c (directionAt ds ((start + i) % n)) ≡ true → F.At ((start + i) % n) ≡ searchedFrom ds c (n - i) (start + i)
+  pub search-found : subdivisibleAlong c (directionAt ds at) ≡ true → F.At at ≡ searchedFrom ds c (n - i) (start + i)
   unfolding searchedFrom
-  search-found h e =
+  search-found e =
       let f : n - i ≡ suc (n - (i + 1)) = omega arith in
-      rw (f, ← same, e)
+      let e′ : subdivisibleAlong c (directionAt ds ((start + i) % n)) ≡ true = rw (← here) e in
+      ap F.At here ∙ rw (f, ← same, e′)
 
-  pub search-end : n ≤ i → F.Nothing ≡ searchedFrom ds c (n - i) (start + i)
-  unfolding searchedFrom
-  search-end h = let f : n - i ≡ 0 = omega arith in rw f
+-- the first place is that of turn 0
+pub first-here : (start n at : ℕ) → at ≡ start % n → at ≡ (start + 0) % n
+first-here start n at e = e ∙ ap (λ (m : ℕ). m % n) (sym (add-zero start))
 
 pub search-start : (p : Picture) (c : Block) (start n : ℕ) → n ≡ length (directions (p .set)) → searchedFrom (directions (p .set)) c (n - 0) (start + 0) ≡ searched p c start
 search-start p c start n e = let f : n - 0 ≡ n = omega arith in rw (f, add-zero start, e)
 
 -- THE TURN
 
-pub turns-to : (p : Picture) (b : Block) (n s d : ℕ) (c : Block) (f : Found) → s ≡ startOf p b n → f ≡ searched p c s → f ≡ F.At d → T.To (turnedTo c d) ≡ turned p b n c
-unfolding turned
-turns-to p b n s d c f e g h = ap (turnedBy c) (sym h ∙ g ∙ ap (searched p c) e)
+pub turns-to : (p : Picture) (start d : ℕ) (c : Block) (f : Found) → f ≡ searched p c start → f ≡ F.At d → T.To (turnedTo c d) ≡ turnedFound p start c
+turns-to p start d c f g h = ap (turnedBy c) (sym h ∙ g)
 
-pub turns-nowhere : (p : Picture) (b : Block) (n s : ℕ) (c : Block) (f : Found) → s ≡ startOf p b n → f ≡ searched p c s → f ≡ F.Nothing → T.Nowhere ≡ turned p b n c
-unfolding turned
-turns-nowhere p b n s c f e g h = ap (turnedBy c) (sym h ∙ g ∙ ap (searched p c) e)
+pub turns-nowhere : (p : Picture) (start : ℕ) (c : Block) (f : Found) → f ≡ searched p c start → f ≡ F.Nothing → T.Nowhere ≡ turnedFound p start c
+turns-nowhere p start c f g h = ap (turnedBy c) (sym h ∙ g)

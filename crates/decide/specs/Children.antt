@@ -1,9 +1,9 @@
 -- Document 01, the sentence of the step that lists the children of a block, by its direction.
 use mathlib.Core.Bool.{Bool, cond, _&&_, _||_}
 use mathlib.Core.List.{List, [], _∷_, _++_, map}
-use Prim.Native.Nat.{_+_, _-_}
+use Prim.Native.Nat.{ℕ, _-_}
 use lib.Dec.{leb, ltb}
-use lib.ListN.{length, replicate, set}
+use lib.ListN.{length, replicate}
 use Rattle.coordinate.specs.declared.Coordinate.{Coordinate}
 use Rattle.coordinate.specs.Axis.{inside}
 use Rattle.coordinate.specs.Lone.{lowHalf, highHalf}
@@ -17,6 +17,7 @@ use Rattle.queue.specs.declared.directions.DirectionAt.the-variants as A
 use Rattle.queue.specs.Block.{isInteger, parameterOf, withParameter}
 use Rattle.decide.specs.declared.Picture.{Picture}
 use Rattle.decide.specs.declared.children.Children.{Children}
+use Rattle.decide.specs.declared.children.Halves.{Halves}
 use Rattle.decide.specs.Damage.{sound, directionOf}
 
 -- the block at other coordinates
@@ -63,15 +64,17 @@ childrenOf p b = cond (sound p b) (childrenAlong p b (directionOf p b)) []
 abbrev pub listed : Block → List Block → Children
 listed b l = record { at = l ++ replicate (4 - length l) b; count = length l }
 
--- THE SAME, CHILD BY CHILD
+-- THE QUARTERS BY THE HALVES
 
--- a child more in the array, where there is room
-unfoldable pub withChild : Children → Block → Children
-withChild k c = cond (ltb (k .count) 4) (record { at = set (k .at) (k .count) c; count = k .count + 1 }) k
+-- is a half listed, by the rank of its whole? From level 0 down any is, above only one that begins inside its side
+abbrev pub isKept : ℕ → Coordinate → ℕ → Bool
+isKept rank c side = leb rank 48 || inside side (c .rank) (c .index)
 
--- is the quarter of b at these halves listed?
-abbrev pub isKept : Picture → Block → Coordinate → Coordinate → Bool
-isKept p b x y = leb (b .x .rank) 48 || (inside (p .width) (x .rank) (x .index) && inside (p .height) (y .rank) (y .index))
+abbrev pub listedIf : Bool → Block → List Block → List Block
+listedIf t q l = cond t (q ∷ l) l
 
-unfoldable pub withQuarter : Picture → Children → Block → Coordinate → Coordinate → Children
-withQuarter p k b x y = cond (isKept p b x y) (withChild k (movedTo b x y)) k
+-- the first quarter, and those at the high halves as far as these are listed
+unfoldable pub quartersKept : Block → Halves → Halves → Bool → Bool → List Block
+quartersKept b x y right above =
+    movedTo b (x .low) (y .low) ∷ listedIf right (movedTo b (x .high) (y .low))
+    (listedIf above (movedTo b (x .low) (y .high)) (listedIf (right && above) (movedTo b (x .high) (y .high)) []))

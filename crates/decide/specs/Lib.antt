@@ -3,5 +3,3 @@ pub mod Damage
 pub mod Children
 pub mod Verdict
 pub mod Turn
-pub mod Plan
-pub mod AtOnce

@@ -65,6 +65,10 @@ abbrev pub turnedBy : Block → Found → Turned
 turnedBy c (F.At d) = T.To (turnedTo c d)
 turnedBy c F.Nothing = T.Nowhere
 
+-- the child with the direction that a search from a place on finds
+abbrev pub turnedFound : Picture → ℕ → Block → Turned
+turnedFound p start c = turnedBy c (searched p c start)
+
 -- an incomplete child of b with its next direction, if it finds one; `incomplete` is how many there are
 unfoldable pub turned : Picture → Block → ℕ → Block → Turned
-turned p b incomplete c = turnedBy c (searched p c (startOf p b incomplete))
+turned p b incomplete c = turnedFound p (startOf p b incomplete) c

@@ -1,20 +1,19 @@
 // The children of a block, listed by the cut along its direction: both coordinates halved, or one parameter's later cut.
 ghost use mathlib.Core.Path.{_≡_};
 ghost use mathlib.Core.Bool.{true};
-ghost use mathlib.Core.List.{[]};
+ghost use mathlib.Core.List.{[], _∷_};
 ghost use Rattle.coordinate.specs.Axis.{ordinaryFloor, aboveFloor};
 ghost use Rattle.coordinate.specs.Lone.{legal, lowHalf, highHalf, halvesAsked};
 ghost use Rattle.interval.specs.Bounds.{legalInterval};
-ghost use Rattle.queue.specs.Block.{isInteger, parameterOf, withParameter};
+ghost use Rattle.queue.specs.Block.{isInteger, parameterOf};
 ghost use Rattle.decide.specs.Damage.{sound, directionOf};
-ghost use Rattle.decide.specs.Children.{isKept, withChild, withQuarter, childrenXY, childrenCut, childrenAlong, childrenOf, listed};
+ghost use Rattle.decide.specs.Children.{movedTo, isKept, quartersKept, childrenXY, childrenCut, childrenAlong, childrenOf, listed};
 use super::Picture;
 use super::damage::is_legal_picture;
 use super::damage::is_placed;
 use super::damage::is_undamaged;
 use coordinate::Coordinate;
 use coordinate::Halved;
-use interval::Interval;
 use interval::Pieces;
 use queue::Block;
 use queue::directions::Direction;
@@ -44,14 +43,14 @@ pub fn children_of(p: Picture, b: Block) -> Children
     if is_legal_picture(p) & is_undamaged(p, b) {
         return match direction_at(p.set, b.dir) {
             DirectionAt::Along(d) => children_along(p, b, d),
-            DirectionAt::Beyond => with_child(no_child(b), b),
+            DirectionAt::Beyond => list_one(b, b),
         };
     }
     no_child(b)
 }
 
-// No child yet.
-pub(crate) fn no_child(b: Block) -> Children
+// No child.
+fn no_child(b: Block) -> Children
     ensures { λ r. ⌜ r ≡ listed b [] ⌝ }
 {
     Children {
@@ -60,17 +59,34 @@ pub(crate) fn no_child(b: Block) -> Children
     }
 }
 
-// One child more; four are the most.
-fn with_child(k: Children, c: Block) -> Children
-    ensures { λ r. ⌜ r ≡ withChild k c ⌝ }
+// One child of a block.
+fn list_one(b: Block, c: Block) -> Children
+    ensures { λ r. ⌜ r ≡ listed b (c ∷ []) ⌝ }
 {
-    let mut r = k;
-    let n = r.count;
-    if n < 4 {
-        r.at[n] = c;
-        r.count = n + 1;
+    Children {
+        at: [c, b, b, b],
+        count: 1,
     }
-    r
+}
+
+// Two.
+fn list_two(b: Block, c: Block, d: Block) -> Children
+    ensures { λ r. ⌜ r ≡ listed b (c ∷ d ∷ []) ⌝ }
+{
+    Children {
+        at: [c, d, b, b],
+        count: 2,
+    }
+}
+
+// Three.
+fn list_three(b: Block, c: Block, d: Block, e: Block) -> Children
+    ensures { λ r. ⌜ r ≡ listed b (c ∷ d ∷ e ∷ []) ⌝ }
+{
+    Children {
+        at: [c, d, e, b],
+        count: 3,
+    }
 }
 
 // The children along a direction.
@@ -92,12 +108,12 @@ fn children_xy(p: Picture, b: Block) -> Children
     requires { ⌜ (sound p b ≡ true) × (aboveFloor ordinaryFloor (b .x .rank) ≡ true) ⌝ }
     ensures { λ r. ⌜ r ≡ listed b (childrenXY p b) ⌝ }
 {
-    let x = halves_of(b.x);
+    let parent = b.x;
+    let x = halves_of(parent);
     let y = halves_of(b.y);
-    let k0 = with_quarter(p, no_child(b), b, x.low, y.low);
-    let k1 = with_quarter(p, k0, b, x.high, y.low);
-    let k2 = with_quarter(p, k1, b, x.low, y.high);
-    with_quarter(p, k2, b, x.high, y.high)
+    let right = is_kept(parent.rank, x.high, p.width);
+    let above = is_kept(parent.rank, y.high, p.height);
+    list_quarters(b, x, y, right, above)
 }
 
 // Both halves of a coordinate that has them.
@@ -111,27 +127,60 @@ fn halves_of(c: Coordinate) -> Halves
     }
 }
 
-// The quarter at two halves, unless it is left out.
-fn with_quarter(p: Picture, k: Children, b: Block, x: Coordinate, y: Coordinate) -> Children
-    requires { ⌜ (legal ordinaryFloor x ≡ true) × (legal ordinaryFloor y ≡ true) ⌝ }
-    ensures { λ r. ⌜ r ≡ withQuarter p k b x y ⌝ }
+// Whether a half is listed, by the rank of its whole: above level 0 only if it begins inside its side.
+fn is_kept(rank: u8, c: Coordinate, side: u32) -> bool
+    requires { ⌜ legal ordinaryFloor c ≡ true ⌝ }
+    ensures { λ r. ⌜ r ≡ isKept rank c side ⌝ }
 {
-    if is_kept(p, b, x, y) {
-        let mut c = b;
-        c.x = x;
-        c.y = y;
-        return with_child(k, c);
-    }
-    k
+    (rank <= 48) | is_placed(c, side)
 }
 
-// Whether the quarter is listed: above level 0 only if it begins inside the picture.
-fn is_kept(p: Picture, b: Block, x: Coordinate, y: Coordinate) -> bool
-    requires { ⌜ (legal ordinaryFloor x ≡ true) × (legal ordinaryFloor y ≡ true) ⌝ }
-    ensures { λ r. ⌜ r ≡ isKept p b x y ⌝ }
+// The first quarter, which begins where the block does, and those at the high halves as far as these are listed.
+fn list_quarters(b: Block, x: Halves, y: Halves, right: bool, above: bool) -> Children
+    ensures { λ r. ⌜ r ≡ listed b (quartersKept b x y right above) ⌝ }
 {
-    let parent = b.x;
-    (parent.rank <= 48) | (is_placed(x, p.width) & is_placed(y, p.height))
+    let q0 = moved_to(b, x.low, y.low);
+    let q1 = moved_to(b, x.high, y.low);
+    let q2 = moved_to(b, x.low, y.high);
+    let q3 = moved_to(b, x.high, y.high);
+    if right {
+        if above {
+            return Children {
+                at: [q0, q1, q2, q3],
+                count: 4,
+            };
+        }
+        return list_two(b, q0, q1);
+    }
+    if above {
+        return list_two(b, q0, q2);
+    }
+    list_one(b, q0)
+}
+
+// The block at other coordinates, field by field, so that no bytes between the fields are copied.
+fn moved_to(b: Block, x: Coordinate, y: Coordinate) -> Block
+    ensures { λ r. ⌜ r ≡ movedTo b x y ⌝ }
+{
+    let m = b.m;
+    let n = b.n;
+    let theta = b.theta;
+    let t = b.t;
+    Block {
+        x: Coordinate {
+            index: x.index,
+            rank: x.rank,
+        },
+        y: Coordinate {
+            index: y.index,
+            rank: y.rank,
+        },
+        m,
+        n,
+        theta,
+        t,
+        dir: b.dir,
+    }
 }
 
 // The pieces of a parameter's later cut in order.
@@ -139,18 +188,15 @@ fn children_cut(b: Block, d: Direction) -> Children
     requires { ⌜ legalInterval (parameterOf b d) (isInteger d) ≡ true ⌝ }
     ensures { λ r. ⌜ r ≡ listed b (childrenCut b d) ⌝ }
 {
-    let k = no_child(b);
     match interval::later_cut(parameter_of(b, d), is_integer(d)) {
-        Pieces::One(p) => with_piece(k, b, d, p),
-        Pieces::Two(p, q) => with_piece(with_piece(k, b, d, p), b, d, q),
-        Pieces::Three(p, q, r) => with_piece(with_piece(with_piece(k, b, d, p), b, d, q), b, d, r),
-        Pieces::Refused(_) => k,
+        Pieces::One(p) => list_one(b, with_parameter(b, d, p)),
+        Pieces::Two(p, q) => list_two(b, with_parameter(b, d, p), with_parameter(b, d, q)),
+        Pieces::Three(p, q, r) => list_three(
+            b,
+            with_parameter(b, d, p),
+            with_parameter(b, d, q),
+            with_parameter(b, d, r),
+        ),
+        Pieces::Refused(_) => no_child(b),
     }
-}
-
-// The child with a piece of a parameter.
-fn with_piece(k: Children, b: Block, d: Direction, p: Interval) -> Children
-    ensures { λ r. ⌜ r ≡ withChild k (withParameter b d p) ⌝ }
-{
-    with_child(k, with_parameter(b, d, p))
 }

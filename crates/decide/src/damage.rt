@@ -1,15 +1,18 @@
 // Which pictures are legal, and which blocks are damaged.
 ghost use mathlib.Core.Path.{_≡_};
+ghost use Rattle.interval.specs.Bounds.{legalInterval};
 ghost use Rattle.decide.specs.Damage.{legalSide, legalPicture, placeRight, directionOf, directionRight, cuttable, parametersRight, undamaged, damageSeen};
 use super::Picture;
 use coordinate::Coordinate;
 use image::Kind;
 use image::Seen;
+use interval::Interval;
 use queue::Block;
 use queue::directions::Direction;
 use queue::directions::DirectionAt;
 use queue::directions::direction_at;
 use queue::directions::direction_count;
+use queue::kept::whole_line;
 use refusal::Whether;
 
 // Whether the sides and the variable set are ones that a setup takes.
@@ -27,7 +30,7 @@ pub fn is_legal_side(side: u32) -> bool
 }
 
 // Whether a block taken from a queue is one that a step can go on with.
-pub fn is_undamaged(p: Picture, b: Block) -> bool
+pub(crate) fn is_undamaged(p: Picture, b: Block) -> bool
     ensures { λ r. ⌜ r ≡ undamaged p b ⌝ }
 {
     let x = b.x;
@@ -73,13 +76,23 @@ pub(crate) fn is_cuttable(b: Block, d: Direction) -> bool
     }
 }
 
+// Whether a parameter is legal; as a rule it is not in use, and the whole line.
+fn is_right(x: Interval, integer: bool) -> bool
+    ensures { λ r. ⌜ r ≡ legalInterval x integer ⌝ }
+{
+    if interval::is_same(x, whole_line()) {
+        return true;
+    }
+    interval::is_legal(x, integer)
+}
+
 fn has_legal_parameters(b: Block) -> bool
     ensures { λ r. ⌜ r ≡ parametersRight b ⌝ }
 {
-    let m = interval::is_legal(b.m, true);
-    let n = interval::is_legal(b.n, true);
-    let theta = interval::is_legal(b.theta, true);
-    let t = interval::is_legal(b.t, false);
+    let m = is_right(b.m, true);
+    let n = is_right(b.n, true);
+    let theta = is_right(b.theta, true);
+    let t = is_right(b.t, false);
     m & n & theta & t
 }
 

@@ -1,10 +1,9 @@
-// What a step decides before anything is written: the children of a block, what each verdict makes of them, and where the incomplete ones go on.
+// What a step decides of one block, before anything is written: its children, what a verdict makes of a child, and where an incomplete one goes on. The crate `plan` puts these together.
 // Document 01, "Picture and step"; from the Rust's graph/implicit.rs (`subdivide_xy`, `process_block`, the search for a direction).
 // There is no ring here, and no cell is written. Every public function takes any picture, block, verdicts and cells.
 
 pub mod children;
 pub mod damage;
-pub mod plan;
 pub mod turn;
 pub mod verdict;
 

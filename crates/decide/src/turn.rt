@@ -1,9 +1,9 @@
 // Where an incomplete child goes on: the first direction, round the list of those in use, that it can be cut along.
 ghost use mathlib.Core.Path.{_≡_};
-ghost use Prim.Native.Nat.{_≤_};
+ghost use Prim.Native.Nat.{_%_, _^_, _<_};
 ghost use Rattle.queue.specs.Directions.{directions, directionAt};
 ghost use Rattle.decide.specs.Damage.{directionOf};
-ghost use Rattle.decide.specs.Turn.{openLimit, startOf, splitsAt, subdivisibleAlong, searched, turned};
+ghost use Rattle.decide.specs.Turn.{openLimit, startOf, splitsAt, subdivisibleAlong, searched, turnedFound};
 use super::Picture;
 use super::damage::is_cuttable;
 use interval::Interval;
@@ -27,11 +27,11 @@ pub enum Found {
     Nothing,
 }
 
-// The child with its next direction, where so many children of the block are incomplete.
-pub fn turn(p: Picture, b: Block, incomplete: usize, c: Block) -> Turned
-    ensures { λ r. ⌜ r ≡ turned p b incomplete c ⌝ }
+// The child with the direction that a search from a place on finds.
+pub fn turn_from(p: Picture, start: u16, c: Block) -> Turned
+    ensures { λ r. ⌜ r ≡ turnedFound p start c ⌝ }
 {
-    match search(p, c, start_of(p, b, incomplete)) {
+    match search(p, c, start as usize) {
         Found::At(at) => {
             let mut t = c;
             t.dir = at;
@@ -42,14 +42,13 @@ pub fn turn(p: Picture, b: Block, incomplete: usize, c: Block) -> Turned
 }
 
 // Where the search begins: at the present direction while few children are incomplete, else at the next.
-fn start_of(p: Picture, b: Block, incomplete: usize) -> usize
+pub fn start_of(p: Picture, b: Block, incomplete: usize) -> u16
     ensures { λ r. ⌜ r ≡ startOf p b incomplete ⌝ }
-    ensures { λ r. ⌜ r ≤ 256 ⌝ }
 {
     if incomplete <= open_limit(p, b) {
-        b.dir as usize
+        b.dir as u16
     } else {
-        b.dir as usize + 1
+        b.dir as u16 + 1
     }
 }
 
@@ -69,19 +68,40 @@ fn open_limit(p: Picture, b: Block) -> usize
     }
 }
 
-// The first direction, round the list from a place on, that the block can be cut along.
+// The first direction, round the list from a place on, that the block can be cut along: as a rule the first that is tried.
 fn search(p: Picture, c: Block, start: usize) -> Found
-    requires { ⌜ start ≤ 256 ⌝ }
+    requires { ⌜ start < 2 ^ 16 ⌝ }
     ensures { λ r. ⌜ r ≡ searched p c start ⌝ }
 {
     let n = direction_count(p.set) as usize;
-    for i in 0..n {
-        let at = ((start + i) % n) as u8;
+    if n == 0 {
+        return Found::Nothing;
+    }
+    let first = round(start, n) as u8;
+    if is_subdivisible(p, c, first) {
+        return Found::At(first);
+    }
+    for i in 1..n {
+        let at = round(start + i, n) as u8;
         if is_subdivisible(p, c, at) {
             return Found::At(at);
         }
     }
     Found::Nothing
+}
+
+// A place in a list of n, round its end; mostly without a division.
+fn round(at: usize, n: usize) -> usize
+    requires { ⌜ 0 < n ⌝ }
+    ensures { λ r. ⌜ r ≡ at % n ⌝ }
+{
+    if at < n {
+        return at;
+    }
+    if at - n < n {
+        return at - n;
+    }
+    at % n
 }
 
 // Whether the block can be cut along the direction at a place.

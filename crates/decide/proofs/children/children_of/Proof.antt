@@ -1,7 +1,7 @@
 -- `decide::children::children_of` meets its contract. Assumes nothing.
 use mathlib.Core.Path.{sym, _∙_}
 use borrow.Author.Needs.{needs}
-use Rattle.decide.proofs.ListingLaws.{children-sound, children-none, one-piece}
+use Rattle.decide.proofs.ListingLaws.{children-sound, children-none}
 use Rattle.queue.specs.declared.directions.DirectionAt.the-variants as A
 use Rattle.decide.proofs.children.children_of.Statement.{statement}
 use Rattle.decide.proofs.children.children_of.Tie as tie
@@ -19,28 +19,25 @@ enum-known-d : tie.Need-enum-known-d
 enum-known-d c = search needs
 
 children-along-requires : tie.Need-children-along-requires
-children-along-requires c κs = (rw (← c .before .before .before .before .before .before .is-legal-picture .ensures, ← c .before .before .before .before .before .is-undamaged .ensures) (c .before .before .before .before .if1 .taken), sym (c .before .before .before .direction-at .ensures) ∙ c .before .d .given .1)
+children-along-requires c κs = (rw (← (c .before .before .before .before .before .before .is-legal-picture .ensures), ← (c .before .before .before .before .before .is-undamaged .ensures)) (c .before .before .before .before .if1 .taken), sym (c .before .before .before .direction-at .ensures) ∙ (c .before .d .given .1))
 
 enum-told : tie.Need-enum-told
 enum-told c = search needs
 
+list-one-requires : tie.Need-list-one-requires
+list-one-requires c κs = tt
+
+returns : tie.Need-returns
+returns c = children-sound (c .before .before .before .before .before .before .before .before .args .p) (c .before .before .before .before .before .before .before .before .args .b) (A.Along (c .before .before .d .given .0 .0)) (c .children-along .result) (rw (← (c .before .before .before .before .before .before .before .is-legal-picture .ensures), ← (c .before .before .before .before .before .before .is-undamaged .ensures)) (c .before .before .before .before .before .if1 .taken)) (sym (c .before .before .d .given .1) ∙ (c .before .before .before .before .direction-at .ensures)) (c .children-along .ensures)
+
+returns-2 : tie.Need-returns-2
+returns-2 c = children-sound (c .before .before .before .before .before .before .before .args .p) (c .before .before .before .before .before .before .before .args .b) A.Beyond (c .list-one .result) (rw (← (c .before .before .before .before .before .before .is-legal-picture .ensures), ← (c .before .before .before .before .before .is-undamaged .ensures)) (c .before .before .before .before .if1 .taken)) (sym (c .before .enum-told .given .1) ∙ (c .before .before .before .direction-at .ensures)) (c .list-one .ensures)
+
 no-child-requires : tie.Need-no-child-requires
 no-child-requires c κs = tt
 
-with-child-requires : tie.Need-with-child-requires
-with-child-requires c κs = tt
-
-returns : tie.Need-returns
-returns c = children-sound (c .before .before .before .before .before .before .before .before .args .p) (c .before .before .before .before .before .before .before .before .args .b) (A.Along (c .before .before .d .given .0 .0)) (c .children-along .result) (rw (← c .before .before .before .before .before .before .before .is-legal-picture .ensures, ← c .before .before .before .before .before .before .is-undamaged .ensures) (c .before .before .before .before .before .if1 .taken)) (sym (c .before .before .d .given .1) ∙ c .before .before .before .before .direction-at .ensures) (c .children-along .ensures)
-
-returns-2 : tie.Need-returns-2
-returns-2 c = children-sound (c .before .before .before .before .before .before .before .before .args .p) (c .before .before .before .before .before .before .before .before .args .b) A.Beyond (c .with-child .result) (rw (← c .before .before .before .before .before .before .before .is-legal-picture .ensures, ← c .before .before .before .before .before .before .is-undamaged .ensures) (c .before .before .before .before .before .if1 .taken)) (sym (c .before .before .enum-told .given .1) ∙ c .before .before .before .before .direction-at .ensures) (one-piece (c .before .before .before .before .before .before .before .before .args .b) (c .before .before .before .before .before .before .before .before .args .b) (c .before .no-child .result) (c .with-child .result) (c .before .no-child .ensures) (c .with-child .ensures))
-
-no-child-requires-2 : tie.Need-no-child-requires-2
-no-child-requires-2 c κs = tt
-
 returns-3 : tie.Need-returns-3
-returns-3 c = children-none (c .before .before .before .before .args .p) (c .before .before .before .before .args .b) (c .no-child2 .result) (rw (← c .before .before .before .is-legal-picture .ensures, ← c .before .before .is-undamaged .ensures) (c .before .if1 .left)) (c .no-child2 .ensures)
+returns-3 c = children-none (c .before .before .before .before .args .p) (c .before .before .before .before .args .b) (c .no-child .result) (rw (← (c .before .before .before .is-legal-picture .ensures), ← (c .before .before .is-undamaged .ensures)) (c .before .if1 .left)) (c .no-child .ensures)
 
 pub children-of-spec : {M : Type 1} → statement M
 children-of-spec =
@@ -52,9 +49,8 @@ children-of-spec =
     enum-known-d
     children-along-requires
     enum-told
-    no-child-requires
-    with-child-requires
+    list-one-requires
     returns
     returns-2
-    no-child-requires-2
+    no-child-requires
     returns-3)

@@ -6,11 +6,12 @@ use Rattle.decide.proofs.children.is_kept.Tie as tie
 is-placed-requires : tie.Need-is-placed-requires
 is-placed-requires c κs = tt
 
-is-placed-requires-2 : tie.Need-is-placed-requires-2
-is-placed-requires-2 c κs = tt
-
 returns : tie.Need-returns
-returns c = kept-as (c .before .before .before .before .args .p) (c .before .before .before .before .args .b) (c .before .before .before .before .args .x) (c .before .before .before .before .args .y) (c .before .is-placed .result) (c .is-placed2 .result) (c .before .before .before .before .pre .0) (c .before .before .before .before .pre .1) (c .before .is-placed .ensures) (c .is-placed2 .ensures)
+returns c = kept-as (c .before .args .rank) (c .before .args .c) (c .before .args .side) (c .is-placed .result) (c .before .pre) (c .is-placed .ensures)
 
 pub is-kept-spec : {M : Type 1} → statement M
-is-kept-spec = tie.close (tie.spec is-placed-requires is-placed-requires-2 returns)
+is-kept-spec =
+    tie.close
+    (tie.spec
+    is-placed-requires
+    returns)

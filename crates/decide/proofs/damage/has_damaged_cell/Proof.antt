@@ -1,6 +1,6 @@
 -- `decide::damage::has_damaged_cell` meets its contract. Assumes nothing.
 use denote.Ref.{now}
-use Rattle.decide.proofs.JudgeLaws.{damage-as}
+use Rattle.decide.proofs.DamageLaws.{damage-as}
 use Rattle.decide.proofs.damage.has_damaged_cell.Statement.{statement}
 use Rattle.decide.proofs.damage.has_damaged_cell.Tie as tie
 

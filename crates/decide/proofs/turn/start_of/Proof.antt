@@ -17,10 +17,10 @@ add-result : tie.Need-add-result
 add-result c = search needs
 
 returns : tie.Need-returns
-returns c = (start-present (c .before .before .before .args .p) (c .before .before .before .args .b) (c .before .before .before .args .incomplete) (c .before .before .open-limit .result) (c .before .before .open-limit .ensures) (c .before .if1 .taken), search needs)
+returns c = start-present (c .before .before .before .args .p) (c .before .before .before .args .b) (c .before .before .before .args .incomplete) (c .before .before .open-limit .result) (c .before .before .open-limit .ensures) (c .before .if1 .taken)
 
 returns-2 : tie.Need-returns-2
-returns-2 c = (start-next (c .before .before .before .args .p) (c .before .before .before .args .b) (c .before .before .before .args .incomplete) (c .before .before .open-limit .result) (c .before .before .open-limit .ensures) (c .before .if1 .left), search needs)
+returns-2 c = start-next (c .before .before .before .args .p) (c .before .before .before .args .b) (c .before .before .before .args .incomplete) (c .before .before .open-limit .result) (c .before .before .open-limit .ensures) (c .before .if1 .left)
 
 pub start-of-spec : {M : Type 1} → statement M
 start-of-spec =

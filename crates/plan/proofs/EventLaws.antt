@@ -1,0 +1,314 @@
+-- Laws of a step's events: those of the plan, how many there are, what is queued by them, and the cells after them. Assumes nothing.
+use mathlib.Core.Path.{_≡_, refl, sym, ap, ap₂, _∙_}
+use mathlib.Core.Bool.{Bool, true, false, cond, true≢false, false≢true}
+use mathlib.Core.List.{List, [], _∷_, _++_, map, Sublistᴰ, Sublistᴰ·slnil, Sublistᴰ·cons, Sublistᴰ·cons-cons, Sublistᴰ·nil-sublist}
+use Prim.Native.Nat.{ℕ, zero, suc, _+_, _-_, _*_, _/_, _%_, _≤_}
+use native.Mathlib.Omega.{arith}
+use native.Mathlib.Decide.{decLt}
+use native.Mathlib.Nat.{add-zero}
+use lib.ListN.{length, replicate}
+use borrow.Author.Tests.{le-leb}
+use Rattle.base.specs.Event.{Event, marks, queues, givesUp, queuedBy}
+use Rattle.base.proofs.Test.{by-test}
+use Rattle.image.specs.declared.Op.the-variants as Op
+use Rattle.image.specs.Cell.{Cell, doneTo}
+use Rattle.image.specs.Range.{holdsCell, rectangleOf}
+use Rattle.image.specs.Painting.{painted}
+use Rattle.image.proofs.AtLaws.{mapAt-ext, mapAt-mapAt}
+use Rattle.image.proofs.RangeLaws.{cell-pixel, beyond-not-held, rectangle-in-picture, rectangle-covers}
+use Rattle.queue.specs.declared.Block.{Block}
+use Rattle.queue.proofs.RoundTrip.{CanQueue}
+use Rattle.decide.specs.declared.Picture.{Picture}
+use Rattle.plan.specs.declared.Planned.{Planned}
+use Rattle.decide.specs.declared.turn.Turned.{Turned}
+use Rattle.decide.specs.declared.turn.Turned.the-variants as T
+use Rattle.decide.specs.declared.verdict.Outcome.{Outcome}
+use Rattle.decide.specs.declared.verdict.Outcome.the-variants as O
+use Rattle.decide.specs.Damage.{sound}
+use Rattle.decide.specs.Children.{childrenOf}
+use Rattle.decide.specs.Verdict.{outcomeOf, isMarking, isOpen}
+use Rattle.decide.specs.Turn.{turnedTo, turned}
+use Rattle.plan.specs.Plan.{paintedUnder, allTrue, outcomes, evaluations, openCount, markEvents, turnEvent, turnEvents, eventsFor, cellsAfter, untouched, plannedTurn, plannedAll, planFrom, planOf, markPlanned, plannedMarks, turnPlanned, plannedTurns}
+use Rattle.plan.proofs.Each.{Each, each-also, each-both}
+use Rattle.decide.proofs.VerdictLaws.{cost-of-child}
+use Rattle.decide.proofs.ListingLaws.{children-few}
+use Rattle.plan.proofs.CoverLaws.{covers, Narrower, true-pixels, pixels-true}
+use Rattle.plan.proofs.PlaceLaws.{Lies, lies-narrower, children-lie}
+use Rattle.plan.proofs.PlanLaws.{marks-queue-none}
+use Rattle.plan.proofs.ChildLaws.{ChildPlace, Fine, children-placed, children-fine, child-can-queue}
+use Rattle.plan.proofs.QueuedLaws.{TurnsTo, turns, turned-sound, turned-can-queue}
+
+-- THE PLAN'S EVENTS
+
+marks-behind : (l : List Planned) (k : ℕ) (b : Block) → plannedMarks (l ++ replicate k (untouched b)) ≡ plannedMarks l
+unfolding plannedMarks
+marks-behind [] zero b = refl
+marks-behind [] (suc k) b = marks-behind [] k b
+marks-behind (e ∷ l) k b = ap (markPlanned (e .block) (e .fate)) (marks-behind l k b)
+
+turns-behind : (l : List Planned) (k : ℕ) (b : Block) → plannedTurns (l ++ replicate k (untouched b)) ≡ plannedTurns l
+unfolding plannedTurns
+turns-behind [] zero b = refl
+turns-behind [] (suc k) b = turns-behind [] k b
+turns-behind (e ∷ l) k b = ap (turnPlanned (e .block) (e .fate)) (turns-behind l k b)
+
+module _ (turn : Block → Turned) where
+  all-marks : (cs : List Block) (os : List Outcome) → plannedMarks (plannedAll turn cs os) ≡ markEvents cs os
+  unfolding plannedMarks plannedAll markEvents
+  all-marks [] os = refl
+  all-marks (c ∷ cs) [] = all-marks cs [] ∙ none cs
+    where
+      none : (l : List Block) → markEvents l [] ≡ []
+      none [] = refl
+      none (d ∷ l) = refl
+  all-marks (c ∷ cs) (O.Skipped ∷ os) = all-marks cs os
+  all-marks (c ∷ cs) (O.False ∷ os) = all-marks cs os
+  all-marks (c ∷ cs) (O.Area ∷ os) = ap (λ (l : List (Event Block)). marks c ∷ l) (all-marks cs os)
+  all-marks (c ∷ cs) (O.Point n ∷ os) = ap (λ (l : List (Event Block)). marks c ∷ l) (all-marks cs os)
+  all-marks (c ∷ cs) (O.Open n ∷ os) = go (turn c) ∙ all-marks cs os
+    where
+      go : (t : Turned) → markPlanned (plannedTurn c t .block) (plannedTurn c t .fate) (plannedMarks (plannedAll turn cs os)) ≡ plannedMarks (plannedAll turn cs os)
+      go (T.To d) = refl
+      go T.Nowhere = refl
+
+  all-turns : (cs : List Block) (os : List Outcome) → plannedTurns (plannedAll turn cs os) ≡ turnEvents turn cs os
+  unfolding plannedTurns plannedAll turnEvents
+  all-turns [] os = refl
+  all-turns (c ∷ cs) [] = all-turns cs [] ∙ none cs
+    where
+      none : (l : List Block) → turnEvents turn l [] ≡ []
+      none [] = refl
+      none (d ∷ l) = refl
+  all-turns (c ∷ cs) (O.Skipped ∷ os) = all-turns cs os
+  all-turns (c ∷ cs) (O.False ∷ os) = all-turns cs os
+  all-turns (c ∷ cs) (O.Area ∷ os) = all-turns cs os
+  all-turns (c ∷ cs) (O.Point n ∷ os) = all-turns cs os
+  all-turns (c ∷ cs) (O.Open n ∷ os) = go (turn c) ∙ ap (λ (l : List (Event Block)). turnEvent (turn c) ∷ l) (all-turns cs os)
+    where
+      go : (t : Turned) → turnPlanned (plannedTurn c t .block) (plannedTurn c t .fate) (plannedTurns (plannedAll turn cs os)) ≡ turnEvent t ∷ plannedTurns (plannedAll turn cs os)
+      go (T.To d) = refl
+      go T.Nowhere = refl
+
+module _ (p : Picture) (b : Block) (cs : List Block) (os : List Outcome) (vs : List ℕ) where
+  pub plan-marks : plannedMarks (planFrom p b cs os vs .at) ≡ markEvents cs os
+  unfolding planFrom
+  plan-marks =
+      marks-behind (plannedAll (turned p b (openCount os)) cs os) (4 - length (plannedAll (turned p b (openCount os)) cs os)) b ∙ all-marks (turned p b (openCount os)) cs os
+
+  pub plan-turns : plannedTurns (planFrom p b cs os vs .at) ≡ turnEvents (turned p b (openCount os)) cs os
+  unfolding planFrom
+  plan-turns =
+      turns-behind (plannedAll (turned p b (openCount os)) cs os) (4 - length (plannedAll (turned p b (openCount os)) cs os)) b ∙ all-turns (turned p b (openCount os)) cs os
+
+  -- what is carried out of a plan are the events of its children's outcomes
+  pub plan-events : plannedMarks (planFrom p b cs os vs .at) ++ plannedTurns (planFrom p b cs os vs .at) ≡ eventsFor p b cs os
+  unfolding eventsFor
+  plan-events = ap₂ _++_ plan-marks plan-turns
+
+-- with cells for all pixels a plan is made for the children
+pub planned-children : (p : Picture) (b : Block) (vs : List ℕ) (l : List Cell) → p .width * p .height ≤ length l
+    → planOf p b vs l ≡ planFrom p b (childrenOf p b) (outcomes p l (childrenOf p b) vs) vs
+unfolding planOf
+planned-children p b vs l h = rw (le-leb (p .width * p .height) (length l) h)
+
+-- HOW MUCH IT IS
+
+pub evaluations-few : (p : Picture) (l : List Cell) (cs : List Block) (vs : List ℕ) → evaluations (outcomes p l cs vs) ≤ 6 * length cs
+unfolding evaluations outcomes
+evaluations-few p l [] vs = omega arith
+evaluations-few p l (c ∷ cs) [] = omega arith
+evaluations-few p l (c ∷ cs) (v ∷ vs) =
+    let o = outcomeOf (c .x .rank) v (allTrue p c l) in
+    omega (arith, cost-of-child (c .x .rank) v (allTrue p c l), evaluations-few p (cond (isMarking o) (paintedUnder p c Op.Mark l) l) cs vs)
+
+-- a step costs 24 evaluations at most
+pub step-evaluations : (p : Picture) (b : Block) (l : List Cell) (vs : List ℕ) → evaluations (outcomes p l (childrenOf p b) vs) ≤ 24
+step-evaluations p b l vs = omega (arith, evaluations-few p l (childrenOf p b) vs, children-few p b)
+
+queued-few : (turn : Block → Turned) (cs : List Block) (os : List Outcome) → length (queuedBy (turnEvents turn cs os)) ≤ length cs
+unfolding turnEvents queuedBy
+queued-few turn [] os = omega arith
+queued-few turn (c ∷ cs) [] = omega arith
+queued-few turn (c ∷ cs) (o ∷ os) =
+    let ih = queued-few turn cs os in
+    by-test (λ l. length (queuedBy l) ≤ suc (length cs)) (isOpen o) (turnEvent (turn c) ∷ turnEvents turn cs os) (turnEvents turn cs os) (λ e. go (turn c) ih) (λ e. omega arith)
+  where
+    go : (t : Turned) → length (queuedBy (turnEvents turn cs os)) ≤ length cs → length (queuedBy (turnEvent t ∷ turnEvents turn cs os)) ≤ suc (length cs)
+    go (T.To d) h = omega arith
+    go T.Nowhere h = omega arith
+
+-- and queues four blocks at most
+pub step-queues : (p : Picture) (b : Block) (os : List Outcome) → length (queuedBy (eventsFor p b (childrenOf p b) os)) ≤ 4
+unfolding eventsFor
+step-queues p b os =
+    rw (marks-queue-none (childrenOf p b) os (turnEvents (turned p b (openCount os)) (childrenOf p b) os))
+    (omega (arith, queued-few (turned p b (openCount os)) (childrenOf p b) os, children-few p b))
+
+-- WHAT IS MARKED AND QUEUED
+
+-- what holds of each block that is marked or queued
+abbrev pub EachEvent : (Block → Type 0) → List (Event Block) → Type 0
+EachEvent P [] = Unit {0}
+EachEvent P (marks c ∷ es) = P c × EachEvent P es
+EachEvent P (queues c ∷ es) = P c × EachEvent P es
+EachEvent P (givesUp ∷ es) = EachEvent P es
+
+event-append : (P : Block → Type 0) (es fs : List (Event Block)) → EachEvent P es → EachEvent P fs → EachEvent P (es ++ fs)
+event-append P [] fs h k = k
+event-append P (marks c ∷ es) fs h k = (h .0, event-append P es fs (h .1) k)
+event-append P (queues c ∷ es) fs h k = (h .0, event-append P es fs (h .1) k)
+event-append P (givesUp ∷ es) fs h k = event-append P es fs h k
+
+event-marks : (P : Block → Type 0) (cs : List Block) (os : List Outcome) → Each P cs → EachEvent P (markEvents cs os)
+unfolding markEvents
+event-marks P [] os h = tt
+event-marks P (c ∷ cs) [] h = tt
+event-marks P (c ∷ cs) (o ∷ os) h =
+    by-test (EachEvent P) (isMarking o) (marks c ∷ markEvents cs os) (markEvents cs os) (λ e. (h .0, event-marks P cs os (h .1))) (λ e. event-marks P cs os (h .1))
+
+-- each child that is queued, by what it was before it was turned
+module _ (P Q : Block → Type 0) (turn : Block → Turned) (to : (c d : Block) → P c → turn c ≡ T.To d → Q d) where
+  one-turn : (c : Block) (t : Turned) → turn c ≡ t → P c → (es : List (Event Block)) → EachEvent Q es → EachEvent Q (turnEvent t ∷ es)
+  one-turn c (T.To d) e h es k = (to c d h e, k)
+  one-turn c T.Nowhere e h es k = k
+
+  event-turns : (cs : List Block) (os : List Outcome) → Each P cs → EachEvent Q (turnEvents turn cs os)
+  unfolding turnEvents
+  event-turns [] os h = tt
+  event-turns (c ∷ cs) [] h = tt
+  event-turns (c ∷ cs) (o ∷ os) h =
+      by-test (EachEvent Q) (isOpen o) (turnEvent (turn c) ∷ turnEvents turn cs os) (turnEvents turn cs os)
+      (λ e. one-turn c (turn c) refl (h .0) (turnEvents turn cs os) (event-turns cs os (h .1))) (λ e. event-turns cs os (h .1))
+
+  one-queued : (c : Block) (t : Turned) → turn c ≡ t → P c → (es : List (Event Block)) → Each Q (queuedBy es) → Each Q (queuedBy (turnEvent t ∷ es))
+  unfolding queuedBy
+  one-queued c (T.To d) e h es k = (to c d h e, k)
+  one-queued c T.Nowhere e h es k = k
+
+  pub each-queued : (cs : List Block) (os : List Outcome) → Each P cs → Each Q (queuedBy (turnEvents turn cs os))
+  unfolding turnEvents queuedBy
+  each-queued [] os h = tt
+  each-queued (c ∷ cs) [] h = tt
+  each-queued (c ∷ cs) (o ∷ os) h =
+      by-test (λ l. Each Q (queuedBy l)) (isOpen o) (turnEvent (turn c) ∷ turnEvents turn cs os) (turnEvents turn cs os)
+      (λ e. one-queued c (turn c) refl (h .0) (turnEvents turn cs os) (each-queued cs os (h .1))) (λ e. each-queued cs os (h .1))
+
+-- a turned block covers what it covered
+turned-covers : (p : Picture) (c d : Block) → TurnsTo p c d → (px py : ℕ) → covers d px py ≡ covers c px py
+turned-covers p c d t px py = ap (λ (w : Block). covers w px py) (t .same)
+
+pub turned-narrower : (p : Picture) (b : Block) (n : ℕ) (c d : Block) → Narrower b c → turned p b n c ≡ T.To d → Narrower b d
+turned-narrower p b n c d h e px py t = h px py (sym (turned-covers p c d (turns p b n c d e) px py) ∙ t)
+
+module _ (p : Picture) (b : Block) (ok : sound p b ≡ true) (os : List Outcome) where
+  abbrev turn : Block → Turned
+  turn = turned p b (openCount os)
+
+  -- what a step marks or queues covers only what its block covers
+  pub events-narrower : EachEvent (Narrower b) (eventsFor p b (childrenOf p b) os)
+  unfolding eventsFor
+  events-narrower =
+      let n = each-also (λ c. Lies b c) (Narrower b) (lies-narrower b) (childrenOf p b) (children-lie p b ok) in
+      event-append (Narrower b) (markEvents (childrenOf p b) os) (turnEvents turn (childrenOf p b) os)
+      (event-marks (Narrower b) (childrenOf p b) os n)
+      (event-turns (Narrower b) (Narrower b) turn (turned-narrower p b (openCount os)) (childrenOf p b) os n)
+
+  -- each new block is undamaged in the same picture, and comes out of the queue as it goes in
+  pub queued-sound : Fine (p .set) b → Each (λ d. (sound p d ≡ true) × CanQueue (p .set) d) (queuedBy (eventsFor p b (childrenOf p b) os))
+  unfolding eventsFor
+  queued-sound f =
+      rw (marks-queue-none (childrenOf p b) os (turnEvents turn (childrenOf p b) os))
+      (each-queued (λ c. ChildPlace p b c × Fine (p .set) c) (λ d. (sound p d ≡ true) × CanQueue (p .set) d) turn
+      (λ c d h e. (let t = turns p b (openCount os) c d e in
+      (turned-sound p b c d ok (h .0) (h .1) t, turned-can-queue p c d (child-can-queue p b c (h .0) (h .1)) t)))
+      (childrenOf p b) os
+      (each-both (ChildPlace p b) (Fine (p .set)) (λ c. ChildPlace p b c × Fine (p .set) c) (λ c h k. (h, k)) (childrenOf p b) (children-placed p b ok) (children-fine p b ok f)))
+
+-- the new blocks are children in their order, some left out, by whatever does not look at the direction
+module _ {A : Type 0} (f : Block → A) (turn : Block → Turned) (same : (c d : Block) → turn c ≡ T.To d → f d ≡ f c) where
+  one-kept : (c : Block) (t : Turned) → turn c ≡ t → (es : List (Event Block)) (l : List A) → Sublistᴰ (map f (queuedBy es)) l → Sublistᴰ (map f (queuedBy (turnEvent t ∷ es))) (f c ∷ l)
+  unfolding queuedBy
+  one-kept c (T.To d) e es l s = Sublistᴰ·cons-cons (same c d e) s
+  one-kept c T.Nowhere e es l s = Sublistᴰ·cons s
+
+  turns-sublist : (cs : List Block) (os : List Outcome) → Sublistᴰ (map f (queuedBy (turnEvents turn cs os))) (map f cs)
+  unfolding turnEvents queuedBy
+  turns-sublist [] os = Sublistᴰ·slnil
+  turns-sublist (c ∷ cs) [] = Sublistᴰ·nil-sublist (f c ∷ map f cs)
+  turns-sublist (c ∷ cs) (o ∷ os) =
+      let s = turns-sublist cs os in
+      by-test (λ l. Sublistᴰ (map f (queuedBy l)) (f c ∷ map f cs)) (isOpen o) (turnEvent (turn c) ∷ turnEvents turn cs os) (turnEvents turn cs os)
+      (λ e. one-kept c (turn c) refl (turnEvents turn cs os) (map f cs) s) (λ e. Sublistᴰ·cons s)
+
+pub queued-sublist : {A : Type 0} (f : Block → A) (p : Picture) (b : Block) → ((c : Block) (d : ℕ) → f (turnedTo c d) ≡ f c) → (cs : List Block) (os : List Outcome)
+    → Sublistᴰ (map f (queuedBy (eventsFor p b cs os))) (map f cs)
+unfolding eventsFor
+queued-sublist f p b h cs os =
+    rw (marks-queue-none cs os (turnEvents (turned p b (openCount os)) cs os))
+    (turns-sublist f (turned p b (openCount os)) (λ c d e. (let t = turns p b (openCount os) c d e in ap f (t .same) ∙ h c (d .dir))) cs os)
+
+-- THE CELLS
+
+-- events one after the other
+pub cells-append : (p : Picture) (b : Block) (number new : ℕ) (es fs : List (Event Block)) (l : List Cell)
+    → cellsAfter p b number new (es ++ fs) l ≡ cellsAfter p b number (new + length (queuedBy es)) fs (cellsAfter p b number new es l)
+unfolding cellsAfter queuedBy
+cells-append p b number new [] fs l = rw (add-zero new)
+cells-append p b number new (marks c ∷ es) fs l = cells-append p b number new es fs (paintedUnder p c Op.Mark l)
+cells-append p b number new (queues c ∷ es) fs l =
+    let e : new + suc (length (queuedBy es)) ≡ suc new + length (queuedBy es) = omega arith in
+    rw e (cells-append p b number (suc new) es fs (paintedUnder p c (Op.Name number new) l))
+cells-append p b number new (givesUp ∷ es) fs l = cells-append p b number new es fs (paintedUnder p b Op.GiveUp l)
+
+-- a block that covers all cells of another holds them
+holds-narrower : (p : Picture) (b c : Block) → Narrower b c → (i : ℕ) → holdsCell (p .width) (rectangleOf (c .x) (c .y) (p .width) (p .height)) i ≡ true
+    → holdsCell (p .width) (rectangleOf (b .x) (b .y) (p .width) (p .height)) i ≡ true
+holds-narrower p b c n i t = elim (decLt i (p .width * p .height)) [
+  | yes k ↦ (let z = cell-pixel (p .width) (p .height) i k in
+      let px = i % p .width in
+      let py = p .height - 1 - i / p .width in
+      let rc = rectangle-covers (c .x) (c .y) (p .width) (p .height) px py (z .0) (z .1) in
+      let rb = rectangle-covers (b .x) (b .y) (p .width) (p .height) px py (z .0) (z .1) in
+      rw (z .2) at (rb ∙ n px py (sym rc ∙ rw (z .2) t)))
+  | no k ↦ absurd (true≢false (sym t ∙ beyond-not-held (p .width) (p .height) (rectangleOf (c .x) (c .y) (p .width) (p .height)) i (rectangle-in-picture (c .x) (c .y) (p .width) (p .height)) (omega arith)))
+]
+
+-- giving up and naming siblings in either order leaves the same cells
+pub give-up-order : (p : Picture) (b c : Block) (number new : ℕ) (es : List (Event Block)) (l : List Cell) → Narrower b c
+    → cellsAfter p b number new (givesUp ∷ queues c ∷ es) l ≡ cellsAfter p b number new (queues c ∷ givesUp ∷ es) l
+unfolding cellsAfter painted
+give-up-order p b c number new es l n =
+    let w = p .width in
+    let rb = rectangleOf (b .x) (b .y) (p .width) (p .height) in
+    let rc = rectangleOf (c .x) (c .y) (p .width) (p .height) in
+    ap (cellsAfter p b number (suc new) es)
+    (mapAt-mapAt (λ i z. cond (holdsCell w rc i) (doneTo (Op.Name number new) z) z) (λ i z. cond (holdsCell w rb i) (doneTo Op.GiveUp z) z) 0 l
+    ∙ mapAt-ext _ _ 0 l (λ i z h k. go (holdsCell w rc i) (holdsCell w rb i) (holds-narrower p b c n i) z)
+    ∙ sym (mapAt-mapAt (λ i z. cond (holdsCell w rb i) (doneTo Op.GiveUp z) z) (λ i z. cond (holdsCell w rc i) (doneTo (Op.Name number new) z) z) 0 l))
+  where
+    go : (s t : Bool) → (s ≡ true → t ≡ true) → (z : Cell) → cond s (doneTo (Op.Name number new) (cond t (doneTo Op.GiveUp z) z)) (cond t (doneTo Op.GiveUp z) z)
+        ≡ cond t (doneTo Op.GiveUp (cond s (doneTo (Op.Name number new) z) z)) (cond s (doneTo (Op.Name number new) z) z)
+    go true true f z = unfold doneTo in refl
+    go true false f z = absurd (false≢true (f refl))
+    go false true f z = refl
+    go false false f z = refl
+
+-- SKIPPED
+
+-- where all cells of a block are True every child is skipped, so nothing is done
+true-skips : (p : Picture) (l : List Cell) (cs : List Block) (vs : List ℕ) → Each (λ c. allTrue p c l ≡ true) cs → (turn : Block → Turned)
+    → (markEvents cs (outcomes p l cs vs) ≡ []) × (turnEvents turn cs (outcomes p l cs vs) ≡ [])
+unfolding outcomes markEvents turnEvents
+true-skips p l [] vs h turn = (refl, refl)
+true-skips p l (c ∷ cs) [] h turn = (refl, refl)
+true-skips p l (c ∷ cs) (v ∷ vs) h turn = rw (h .0) (true-skips p l cs vs (h .1) turn)
+
+pub all-true-nothing : (p : Picture) (b : Block) (l : List Cell) (vs : List ℕ) → sound p b ≡ true → p .width * p .height ≤ length l → allTrue p b l ≡ true
+    → eventsFor p b (childrenOf p b) (outcomes p l (childrenOf p b) vs) ≡ []
+unfolding eventsFor
+all-true-nothing p b l vs ok h t =
+    let os = outcomes p l (childrenOf p b) vs in
+    let each = each-also (λ c. Lies b c) (λ c. allTrue p c l ≡ true)
+    (λ c i. pixels-true p c l h (λ px py f g e. true-pixels p b l h t px py f g (lies-narrower b c i px py e))) (childrenOf p b) (children-lie p b ok) in
+    let z = true-skips p l (childrenOf p b) vs each (turned p b (openCount os)) in
+    ap₂ _++_ (z .0) (z .1)
