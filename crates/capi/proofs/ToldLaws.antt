@@ -18,10 +18,11 @@ use Rattle.coordinate.specs.Axis.{level, ordinaryFloor, inRange}
 use Rattle.coordinate.specs.Lone.{legal}
 use Rattle.queue.specs.declared.Block.{Block}
 use Rattle.implicit.specs.declared.state.Listed.{Listed}
+use Rattle.implicit.specs.Answers.{childrenNumber}
 use Rattle.capi.specs.declared.plain.Place.{Place}
 use Rattle.capi.specs.declared.plain.Child.{Child}
 use Rattle.capi.specs.declared.plain.ChildrenTold.{ChildrenTold}
-use Rattle.capi.specs.Engine.{placeOf, childOf, drawnTold, childrenTold}
+use Rattle.capi.specs.Engine.{placeOf, childOf, childrenTold}
 use Rattle.capi.specs.Leaf.{rankOf, rankedAt}
 
 -- A RANK'S LEVEL
@@ -112,11 +113,11 @@ legal-by-level c = go (c .level) (c .index)
 
 -- AN ARRAY OF FOUR
 
-pub children-told : (l : Listed) (d : Block) (n : ℕ) (p q r s : Child) → length (l .children .at) ≡ 4 → n ≡ drawnTold (l .answer)
+pub children-told : (l : Listed) (d : Block) (n : ℕ) (p q r s : Child) → length (l .children .at) ≡ 4 → n ≡ childrenNumber l
     → p ≡ childOf (getD (l .children .at) 0 d) → q ≡ childOf (getD (l .children .at) 1 d) → r ≡ childOf (getD (l .children .at) 2 d) → s ≡ childOf (getD (l .children .at) 3 d)
     → _≡_ {A = ChildrenTold} (record { refusal = n; count = l .children .count; at = p ∷ q ∷ r ∷ s ∷ [] }) (childrenTold l)
 children-told l d n p q r s h e f g i j =
-    rw (e, f, g, i, j) (ap (λ (k : List Child). record { refusal = drawnTold (l .answer); count = l .children .count; at = k }) (go (l .children .at) h))
+    rw (e, f, g, i, j) (ap (λ (k : List Child). record { refusal = childrenNumber l; count = l .children .count; at = k }) (go (l .children .at) h))
   where
     go : (k : List Block) → length k ≡ 4 → childOf (getD k 0 d) ∷ childOf (getD k 1 d) ∷ childOf (getD k 2 d) ∷ childOf (getD k 3 d) ∷ [] ≡ map childOf k
     go [] h = absurd (omega arith)

@@ -8,7 +8,8 @@ ghost use Rattle.implicit.specs.Run.{runOf, runAnswer, worldRun};
 ghost use Rattle.implicit.specs.Setup.{startedAnswer, ringBegun, cellsBegun, pictureOf, leastRing};
 ghost use Rattle.implicit.specs.Step.{worldOf, stepOf, stepAnswer, worldAfter};
 ghost use Rattle.implicit.specs.View.{pictureAnswer, pictureLeft, ifDrawn, countsAnswer};
-ghost use Rattle.capi.specs.Engine.{setupTold, childrenTold, stepTold, runTold, drawnTold, countsTold, cellsTold, neededTold};
+ghost use Rattle.implicit.specs.Answers.{drawnNumber};
+ghost use Rattle.capi.specs.Engine.{setupTold, childrenTold, stepTold, runTold, countsTold, cellsTold, neededTold};
 use crate::plain::ChildrenTold;
 use crate::plain::CountsTold;
 use crate::plain::NumberTold;
@@ -121,7 +122,7 @@ pub extern "C" fn smyrilox_run(
 // The picture's bytes; the answer is the refusal, or 0.
 #[no_mangle]
 pub extern "C" fn smyrilox_picture(state: State, cells: &[u64], picture: &mut [u8]) -> u64
-    ensures { λ r. ⌜ r ≡ drawnTold (pictureAnswer state (now (cells .entry)) (length (now (picture .entry)))) ⌝ }
+    ensures { λ r. ⌜ r ≡ drawnNumber (pictureAnswer state (now (cells .entry)) (length (now (picture .entry)))) ⌝ }
     ensures { λ r. ⌜ now (picture .exit) ≡ ifDrawn (pictureAnswer state (now (cells .entry)) (length (now (picture .entry)))) (pictureLeft state (now (cells .entry)) (now (picture .entry))) (now (picture .entry)) ⌝ }
 {
     tell_drawn(implicit::picture(state, cells, picture))

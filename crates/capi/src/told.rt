@@ -2,7 +2,8 @@
 ghost use mathlib.Core.Path.{_≡_};
 ghost use Rattle.coordinate.specs.Axis.{level};
 ghost use Rattle.refusal.specs.Number.{number};
-ghost use Rattle.capi.specs.Engine.{blankState, blankCounts, placeOf, childOf, setupTold, childrenTold, stepTold, endingNumber, stopNumber, runTold, drawnTold, countsTold, neededTold};
+ghost use Rattle.implicit.specs.Answers.{blankState, stopNumber, drawnNumber};
+ghost use Rattle.capi.specs.Engine.{placeOf, childOf, setupTold, childrenTold, stepTold, endingNumber, runTold, countsTold, neededTold};
 use crate::plain::Child;
 use crate::plain::ChildrenTold;
 use crate::plain::CountsTold;
@@ -163,7 +164,7 @@ pub(crate) fn tell_run(a: Ran) -> RunTold
 }
 
 pub(crate) fn tell_drawn(a: Drawn) -> u64
-    ensures { λ r. ⌜ r ≡ drawnTold a ⌝ }
+    ensures { λ r. ⌜ r ≡ drawnNumber a ⌝ }
 {
     match a {
         Drawn::Done => 0,

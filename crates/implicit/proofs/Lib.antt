@@ -13,7 +13,9 @@ pub mod StepLawsByChild
 pub mod StepLawsCode
 pub mod StepLaws
 pub mod StepLawsWent
+pub mod StepLawsSound
 pub mod RunLaws
 pub mod RunLawsResumed
 pub mod ViewLaws
+pub mod Numbers
 pub mod Pairs

@@ -25,11 +25,11 @@ use Rattle.decide.specs.Damage.{placeRight, undamaged, sound, cellDamaged}
 use Rattle.decide.specs.Children.{childrenOf, listed}
 use Rattle.decide.specs.Verdict.{undecidedOutcome}
 use Rattle.decide.specs.Turn.{turned}
-use Rattle.decide.specs.Plan.{openCount, markEvents, turnEvents, cellsAfter}
-use Rattle.decide.specs.AtOnce.{alike}
+use Rattle.plan.specs.Plan.{openCount, markEvents, turnEvents, cellsAfter}
+use Rattle.plan.specs.AtOnce.{alike}
 use Rattle.decide.proofs.VerdictLaws.{later-points}
-use Rattle.decide.proofs.InTurn.{atOnce, at-once}
-use Rattle.decide.proofs.GiveUpLaws.{cellsOwn, give-up-own, queuedFirst, give-ups-last}
+use Rattle.plan.proofs.InTurn.{atOnce, at-once}
+use Rattle.plan.proofs.GiveUpLaws.{cellsOwn, give-up-own, queuedFirst, give-ups-last}
 use Rattle.implicit.specs.declared.state.State.{State}
 use Rattle.implicit.specs.declared.state.Drawn.the-variants as D
 use Rattle.implicit.specs.declared.state.Ending.the-variants as E

@@ -1,7 +1,7 @@
 -- Laws of sound records and of what they remember. Assumes nothing.
 use mathlib.Core.Path.{_≡_, refl, sym, ap, _∙_}
 use mathlib.Core.List.{List, [], _∷_}
-use mathlib.Core.Bool.{Bool, true, false, not, _&&_, Bool·beq, false≢true}
+use mathlib.Core.Bool.{Bool, true, false, not, _&&_}
 use Prim.Native.Nat.{ℕ, zero, suc, _+_, _^_, _≤_, _<_}
 use native.Mathlib.Nat.{mul-le-mul-right}
 use native.Mathlib.Omega.{arith}
@@ -11,18 +11,16 @@ use lib.ListN.{length, getD, take}
 use lib.ListN as L
 use lib.Seq.{take-nil, length-take-le, getD-take}
 use borrow.Author.Tests.{leb-true, ltb-true, eqb-true, eqb-false, le-leb, lt-ltb, le-ltb, eq-eqb, ne-eqb}
-use Rattle.base.proofs.Test.{cases, and-left, and-right}
+use Rattle.base.proofs.Test.{cases, and-left, and-right, and-six, and-implied, beq-true, beq-self}
 use Rattle.coordinate.specs.Axis.{ordinaryFloor}
 use Rattle.coordinate.proofs.PixelLaws.{ranged}
 use Rattle.interval.specs.Bounds.{legalInterval, wholeBound}
 use Rattle.interval.proofs.Legality.{put-again, put-legal}
-use Rattle.image.specs.declared.Kind.{Kind}
-use Rattle.image.specs.Cell.{Cell, Named, meaningOf, meanings, ofKind}
+use Rattle.image.specs.Cell.{Cell, Named, meaningOf, meanings}
 use Rattle.image.specs.Range.{cellIndex, holdsCell, pictureReady, wholePicture}
-use Rattle.image.specs.Painting.{keepAt, pixelCell, heldCells, someOf, seenIf, someSeen}
+use Rattle.image.specs.Painting.{keepAt, pixelCell, heldCells}
 use Rattle.image.proofs.AtLaws.{keepAt-none}
 use Rattle.image.proofs.RangeLaws.{cell-below, beyond-not-held, whole-holds, whole-in-picture}
-use Rattle.image.proofs.CountLaws.{seen-answered}
 use Rattle.queue.specs.declared.Block.{Block}
 use Rattle.queue.specs.declared.Last.{Last}
 use Rattle.queue.specs.Block.{remembered, startingLast}
@@ -55,19 +53,10 @@ pub record SoundLast (l : Last) : Type 0 where
   pub theta : legalInterval (l .theta) true ≡ true
   pub t : legalInterval (l .t) false ≡ true
 
-six : (a b c d e f : Bool) → a && b && c && d && e && f ≡ true → (a ≡ true) × (b ≡ true) × (c ≡ true) × (d ≡ true) × (e ≡ true) × (f ≡ true)
-six true true true true true true h = (refl, refl, refl, refl, refl, refl)
-six true true true true true false h = absurd (false≢true h)
-six true true true true false f h = absurd (false≢true h)
-six true true true false e f h = absurd (false≢true h)
-six true true false d e f h = absurd (false≢true h)
-six true false c d e f h = absurd (false≢true h)
-six false b c d e f h = absurd (false≢true h)
-
 pub sound-last : (l : Last) → soundLast l ≡ true → SoundLast l
 unfolding soundLast
 sound-last l h =
-    let f = six (ltb (l .x) (2 ^ 47)) (ltb (l .y) (2 ^ 47)) (legalInterval (l .m) true) (legalInterval (l .n) true) (legalInterval (l .theta) true) (legalInterval (l .t) false) h in
+    let f = and-six (ltb (l .x) (2 ^ 47)) (ltb (l .y) (2 ^ 47)) (legalInterval (l .m) true) (legalInterval (l .n) true) (legalInterval (l .theta) true) (legalInterval (l .t) false) h in
     record { x = ltb-true (l .x) (2 ^ 47) (f .0); y = ltb-true (l .y) (2 ^ 47) (f .1); m = f .2; n = f .3; theta = f .4; t = f .5 }
 
 pub last-sound : (l : Last) → SoundLast l → soundLast l ≡ true
@@ -116,20 +105,10 @@ pub record SoundRecord (len : ℕ) (s : State) : Type 0 where
   pub front : SoundLast (s .front)
   pub back : SoundLast (s .back)
 
-same : (a b : Bool) → Bool·beq a b ≡ true → a ≡ b
-same true true h = refl
-same true false h = absurd (false≢true h)
-same false true h = absurd (false≢true h)
-same false false h = refl
-
-itself : (a : Bool) → Bool·beq a a ≡ true
-itself true = refl
-itself false = refl
-
 pub sound-record : (len : ℕ) (s : State) → soundRecord len s ≡ true → SoundRecord len s
 unfolding soundRecord
 sound-record len s h =
-    let f = six (legalPicture (s .picture)) (soundCounts s) (soundRing len s) (soundUse s) (soundLast (s .front)) (soundLast (s .back)) h in
+    let f = and-six (legalPicture (s .picture)) (soundCounts s) (soundRing len s) (soundUse s) (soundLast (s .front)) (soundLast (s .back)) h in
     let r = and-left (eqb (s .len) len && ltb (s .head) len) (leb (s .used) len) (f .2) in
     record {
       picture = legal-picture (s .picture) (f .0);
@@ -138,10 +117,24 @@ sound-record len s h =
       ring = eqb-true (s .len) len (and-left (eqb (s .len) len) (ltb (s .head) len) r);
       head = ltb-true (s .head) len (and-right (eqb (s .len) len) (ltb (s .head) len) r);
       used = leb-true (s .used) len (and-right (eqb (s .len) len && ltb (s .head) len) (leb (s .used) len) (f .2));
-      empty = same (eqb (s .used) 0) (eqb (s .taken) (s .queued)) (f .3);
+      empty = beq-true (eqb (s .used) 0) (eqb (s .taken) (s .queued)) (f .3);
       front = sound-last (s .front) (f .4);
       back = sound-last (s .back) (f .5);
     }
+
+-- a record whose use is not sound is damaged
+pub use-damaged : (len : ℕ) (s : State) → soundUse s ≡ false → soundRecord len s ≡ false
+unfolding soundRecord
+use-damaged len s h = rw h (without (legalPicture (s .picture)) (soundCounts s) (soundRing len s) (soundLast (s .front)) (soundLast (s .back)))
+  where
+    without : (a b c e f : Bool) → a && b && c && false && e && f ≡ false
+    without true true true e f = refl
+    without true true false e f = refl
+    without true false c e f = refl
+    without false b c e f = refl
+
+pub use-as : (s : State) → soundUse s ≡ true → eqb (s .used) 0 ≡ eqb (s .taken) (s .queued)
+use-as s h = beq-true (eqb (s .used) 0) (eqb (s .taken) (s .queued)) h
 
 picture-legal : (p : Picture) → LegalPicture p → legalPicture p ≡ true
 unfolding legalPicture
@@ -165,14 +158,14 @@ record-sound len s h =
       lt-ltb (s .head) len (h .head),
       le-leb (s .used) len (h .used),
       h .empty,
-      itself (eqb (s .taken) (s .queued)),
+      beq-self (eqb (s .taken) (s .queued)),
       last-sound (s .front) (h .front),
       last-sound (s .back) (h .back),
     )
 
 pub sound-picture : (len : ℕ) (s : State) → soundRecord len s ≡ true → legalPicture (s .picture) ≡ true
 unfolding soundRecord
-sound-picture len s h = six (legalPicture (s .picture)) (soundCounts s) (soundRing len s) (soundUse s) (soundLast (s .front)) (soundLast (s .back)) h .0
+sound-picture len s h = and-six (legalPicture (s .picture)) (soundCounts s) (soundRing len s) (soundUse s) (soundLast (s .front)) (soundLast (s .back)) h .0
 
 -- a legal picture has a pixel, and at most 2^30
 pub pixels-some : (p : Picture) → legalPicture p ≡ true → 1 ≤ pixelCount p
@@ -213,20 +206,10 @@ pub whole-ready : (p : Picture) (n : ℕ) → pixelCount p ≤ n → pictureRead
 unfolding pictureReady
 whole-ready p n h = rw (whole-in-picture (p .width) (p .height), le-leb (pixelCount p) n h)
 
--- and what is looked for in it is looked for among the pixels' cells
-pub whole-seen : (p : Picture) (l : List ℕ) (kind : Kind) → pixelCount p ≤ length l
-    → someSeen (p .width) (p .height) (wholePicture (p .width) (p .height)) kind l ≡ seenIf (someOf (ofKind kind) (pixelCells p l))
-whole-seen p l kind h =
-    seen-answered (p .width) (p .height) (wholePicture (p .width) (p .height)) kind l (someOf (ofKind kind) (pixelCells p l)) (whole-ready p (length l) h) refl
-
 -- THREE READINGS OF "THE QUEUE IS EMPTY": on a sound record they are one
 
-twice : (a : Bool) → a && a ≡ a
-twice true = refl
-twice false = refl
-
 pub empty-by-count : (len : ℕ) (s : State) → soundRecord len s ≡ true → queueEmpty s ≡ eqb (s .taken) (s .queued)
-empty-by-count len s h = rw (sound-record len s h .empty, twice (eqb (s .taken) (s .queued)))
+empty-by-count len s h = rw (sound-record len s h .empty, and-implied (eqb (s .taken) (s .queued)) (eqb (s .taken) (s .queued)) (λ e. e))
 
 pub empty-by-bytes : (len : ℕ) (s : State) → soundRecord len s ≡ true → queueEmpty s ≡ eqb (s .used) 0
 empty-by-bytes len s h = empty-by-count len s h ∙ sym (sound-record len s h .empty)

@@ -9,16 +9,16 @@ use lib.Dec.{leb}
 use lib.ListN.{length, take, drop, length-drop}
 use lib.Seq.{drop-drop}
 use borrow.Author.Tests.{leb-true, leb-false, le-leb, lt-leb}
-use Rattle.base.proofs.Test.{cases, cond-yes, cond-no}
+use Rattle.base.proofs.Test.{cases, cond-yes}
 use Rattle.refusal.specs.declared.Refusal.{Refusal}
 use Rattle.refusal.specs.declared.Refusal.the-variants as R
 use Rattle.image.specs.declared.Seen.{Seen}
 use Rattle.image.specs.declared.Seen.the-variants as S
 use Rattle.image.specs.declared.Kind.the-variants as K
 use Rattle.image.specs.declared.PixelRange.{PixelRange}
-use Rattle.image.specs.Cell.{meanings, isGivenUp, ofKind}
+use Rattle.image.specs.Cell.{isGivenUp, ofKind}
 use Rattle.image.specs.Range.{wholePicture, inPicture, pictureReady}
-use Rattle.image.specs.Painting.{someOf, heldCells, seenIf, someSeen}
+use Rattle.image.specs.Painting.{someOf, seenIf, someSeen}
 use Rattle.queue.proofs.QueueAnswers.{denied, granted}
 use Rattle.queue.proofs.RingLaws.{rest-all}
 use Rattle.decide.specs.declared.Picture.{Picture}
@@ -31,10 +31,12 @@ use Rattle.implicit.specs.declared.state.Ran.{Ran}
 use Rattle.implicit.specs.declared.state.Ran.the-variants as A
 use Rattle.implicit.specs.declared.go.Progress.{Progress}
 use Rattle.implicit.specs.Record.{pixelCount, pixelCells, soundRecord, queueEmpty}
-use Rattle.implicit.specs.Step.{World, worldOf, StepEnd, refused, finished, tapeStepOf, stepAnswer, worldAfter, EndsAs}
-use Rattle.implicit.specs.Run.{RunEnd, endedAs, afterStep, emptyEnding, goneOn, runFrom, RunAnswer, notRun, hasRun, runOf, runAnswer, worldRun, RunsAs}
-use Rattle.implicit.specs.ByStep.{startProgress, halted, stepped, progressAfter, nextStep, turnedOnce, worldOnce, restOf, counted, wholeRun, Bounded, RunTo}
+use Rattle.implicit.specs.Step.{World, worldOf, StepEnd, refused, finished, tapeStepOf, worldAfter, EndsAs}
+use Rattle.implicit.specs.Run.{RunEnd, endedAs, afterStep, emptyEnding, goneOn, runFrom, runOf, RunsAs}
+use Rattle.implicit.specs.ByStep.{halted, stepped, progressAfter, nextStep, turnedOnce, worldOnce, SoundByUse, Bounded, RunTo}
+use Rattle.implicit.proofs.StepLawsKept.{LastHeld}
 use Rattle.implicit.proofs.StepLawsWent.{step-few, Stays, step-stays}
+use Rattle.implicit.proofs.StepLawsSound.{step-sound}
 
 -- A RUN'S SUMS
 
@@ -103,17 +105,22 @@ run-step : (left : ℕ) (w : World) (tape : List ℕ) → queueEmpty (w .state) 
 unfolding runFrom
 run-step left w tape e = rw e
 
--- what is counted with nothing more is what was counted
-counted-none : (p : Progress) (w : World) (e : Ending) → counted p (endedAs w e) ≡ record { world = w; steps = p .steps; evaluations = p .evaluations; tape = p .tape; ending = e }
-counted-none p w e =
-    let a : p .steps + 0 ≡ p .steps = omega arith in
-    let b : p .evaluations + 0 ≡ p .evaluations = omega arith in
-    let c : p .tape + 0 ≡ p .tape = omega arith in
-    rw (a, b, c)
+-- how a run ended, with what was counted before
+abbrev counted : Progress → RunEnd → RunEnd
+counted p e = record {
+  world = e .world;
+  steps = p .steps + e .steps;
+  evaluations = p .evaluations + e .evaluations;
+  tape = p .tape + e .tape;
+  ending = e .ending;
+}
 
--- the whole run from here on, on a world
+-- all of the run: what is left to do, on a world, with what was counted so far
 abbrev wholeOn : ℕ → Progress → World → List ℕ → RunEnd
 wholeOn budget p w tape = counted p (cond (p .going) (runFrom (budget - p .steps) w (drop (p .tape) tape)) (endedAs w (p .ending)))
+
+unfoldable pub wholeRun : ℕ → Progress → List ℕ → List ℕ → List ℕ → RunEnd
+wholeRun budget p ring cells tape = wholeOn budget p (worldOf (p .state) ring cells) tape
 
 -- a step finished, and the rest
 counted-more : (budget : ℕ) (p : Progress) (next : World) (evals bytes : ℕ) (tape : List ℕ) → p .steps < budget
@@ -221,6 +228,10 @@ module _ (budget : ℕ) (p : Progress) (ring cells tape : List ℕ) (going : p .
 
 -- THE BEGINNING AND THE END OF THE LOOP
 
+-- before the first step
+abbrev startProgress : State → Progress
+startProgress s = record { state = s; steps = 0; evaluations = 0; tape = 0; ending = E.More; going = true }
+
 pub run-start : (budget : ℕ) (s : State) (ring cells tape : List ℕ) → wholeRun budget (startProgress s) ring cells tape ≡ runFrom budget (worldOf s ring cells) tape
 unfolding wholeRun
 run-start budget s ring cells tape =
@@ -252,21 +263,21 @@ run-end budget p ring cells tape e f h =
 -- BY THE TESTS THAT THE CODE MAKES
 
 module _ (budget : ℕ) (p : Progress) (ring cells tape : List ℕ) (t : Bool) (is-t : t ≡ queueEmpty (p .state)) where
-  pub once-empty : (r : Progress) (e : Ending) → t ≡ true → e ≡ emptyEnding (p .state .picture) cells → r ≡ halted p e
-      → (r ≡ turnedOnce budget p ring cells tape) × (worldOf (r .state) ring cells ≡ worldOnce budget p ring cells tape)
+  pub once-empty : (r : Progress) (e : Ending) → t ≡ true → e ≡ emptyEnding (p .state .picture) cells → r ≡ halted p e → SoundByUse (length ring) (p .state)
+      → (r ≡ turnedOnce budget p ring cells tape) × (worldOf (r .state) ring cells ≡ worldOnce budget p ring cells tape) × SoundByUse (length ring) (r .state)
   unfolding turnedOnce worldOnce
-  once-empty r e h f g = let u : queueEmpty (p .state) ≡ true = sym is-t ∙ h in (rw (u, g, f), rw (u, g))
+  once-empty r e h f g s = let u : queueEmpty (p .state) ≡ true = sym is-t ∙ h in (rw (u, g, f), rw (u, g), rw g s)
 
-  pub once-spent : (r : Progress) → t ≡ false → budget ≤ p .steps → r ≡ halted p E.More
-      → (r ≡ turnedOnce budget p ring cells tape) × (worldOf (r .state) ring cells ≡ worldOnce budget p ring cells tape)
+  pub once-spent : (r : Progress) → t ≡ false → budget ≤ p .steps → r ≡ halted p E.More → SoundByUse (length ring) (p .state)
+      → (r ≡ turnedOnce budget p ring cells tape) × (worldOf (r .state) ring cells ≡ worldOnce budget p ring cells tape) × SoundByUse (length ring) (r .state)
   unfolding turnedOnce worldOnce
-  once-spent r h k g = let u : queueEmpty (p .state) ≡ false = sym is-t ∙ h in (rw (u, le-leb budget (p .steps) k, g), rw (u, le-leb budget (p .steps) k, g))
+  once-spent r h k g s = let u : queueEmpty (p .state) ≡ false = sym is-t ∙ h in (rw (u, le-leb budget (p .steps) k, g), rw (u, le-leb budget (p .steps) k, g), rw g s)
 
   pub once-step : (r : Progress) (ring′ cells′ : List ℕ) → t ≡ false → p .steps < budget → r ≡ progressAfter p (nextStep p ring cells tape)
-      → worldOf (r .state) ring′ cells′ ≡ worldAfter (worldOf (p .state) ring cells) (nextStep p ring cells tape)
-      → (r ≡ turnedOnce budget p ring cells tape) × (worldOf (r .state) ring′ cells′ ≡ worldOnce budget p ring cells tape)
+      → worldOf (r .state) ring′ cells′ ≡ worldAfter (worldOf (p .state) ring cells) (nextStep p ring cells tape) → SoundByUse (length ring′) (r .state)
+      → (r ≡ turnedOnce budget p ring cells tape) × (worldOf (r .state) ring′ cells′ ≡ worldOnce budget p ring cells tape) × SoundByUse (length ring′) (r .state)
   unfolding turnedOnce worldOnce
-  once-step r ring′ cells′ h k g f = let u : queueEmpty (p .state) ≡ false = sym is-t ∙ h in (rw (u, lt-leb budget (p .steps) k) g, rw (u, lt-leb budget (p .steps) k) f)
+  once-step r ring′ cells′ h k g f s = let u : queueEmpty (p .state) ≡ false = sym is-t ∙ h in (rw (u, lt-leb budget (p .steps) k) g, rw (u, lt-leb budget (p .steps) k) f, s)
 
 -- a step's answer, and how far the run then is
 ends-in : (p : Progress) (w : World) (s : StepEnd) (a : Stepped) (ring′ cells′ : List ℕ) → EndsAs w s a ring′ cells′ → (why : Refusal) (t : State) → a ≡ St.Refused why t → (s ≡ refused why) × (w .state ≡ t)
@@ -280,24 +291,25 @@ pub step-rest : (p : Progress) (ring cells tape : List ℕ) (a : Stepped) (ring�
 step-rest p ring cells tape a ring′ cells′ h = rw (rest-all tape (p .tape)) at h
 
 module _ (p : Progress) (ring cells tape : List ℕ) (a : Stepped) (ring′ cells′ : List ℕ) (ends : EndsAs (worldOf (p .state) ring cells) (nextStep p ring cells tape) a ring′ cells′) where
-  pub step-stop : (why : Refusal) (t : State) (r : Progress) → a ≡ St.Refused why t → r ≡ halted p (E.Stop why)
-      → (r ≡ progressAfter p (nextStep p ring cells tape)) × (worldOf (r .state) ring′ cells′ ≡ worldAfter (worldOf (p .state) ring cells) (nextStep p ring cells tape))
-  step-stop why t r f g =
+  pub step-stop : (why : Refusal) (t : State) (r : Progress) → a ≡ St.Refused why t → r ≡ halted p (E.Stop why) → SoundByUse (length ring) (p .state)
+      → (r ≡ progressAfter p (nextStep p ring cells tape)) × (worldOf (r .state) ring′ cells′ ≡ worldAfter (worldOf (p .state) ring cells) (nextStep p ring cells tape)) × SoundByUse (length ring′) (r .state)
+  step-stop why t r f g h =
       let s = ends-in p (worldOf (p .state) ring cells) (nextStep p ring cells tape) a ring′ cells′ ends why t f .0 in
-      (g ∙ sym (ap (progressAfter p) s), rw (g, ends .1, ends .2, s))
+      (g ∙ sym (ap (progressAfter p) s), rw (g, ends .1, ends .2, s), rw (g, ends .1, s) h)
 
-  pub step-on : (t : State) (evals bytes : ℕ) (r : Progress) → a ≡ St.Finished t evals bytes → r ≡ stepped p t evals bytes
-      → (r ≡ progressAfter p (nextStep p ring cells tape)) × (worldOf (r .state) ring′ cells′ ≡ worldAfter (worldOf (p .state) ring cells) (nextStep p ring cells tape))
-  step-on t evals bytes r f g = go (nextStep p ring cells tape) ends
+  pub step-on : (t : State) (evals bytes : ℕ) (r : Progress) → a ≡ St.Finished t evals bytes → r ≡ stepped p t evals bytes → LastHeld (p .state .front)
+      → (r ≡ progressAfter p (nextStep p ring cells tape)) × (worldOf (r .state) ring′ cells′ ≡ worldAfter (worldOf (p .state) ring cells) (nextStep p ring cells tape)) × SoundByUse (length ring′) (r .state)
+  step-on t evals bytes r f g held = go (nextStep p ring cells tape) refl ends
     where
-      go : (s : StepEnd) → EndsAs (worldOf (p .state) ring cells) s a ring′ cells′ → (r ≡ progressAfter p s) × (worldOf (r .state) ring′ cells′ ≡ worldAfter (worldOf (p .state) ring cells) s)
-      go (refused why) e = let k : St.Refused why (p .state) ≡ St.Finished t evals bytes = sym (e .0) ∙ f in let z : _≡_ {A = ℕ} 0 1 = cc in absurd (omega arith)
-      go (finished next evals′ bytes′) e =
+      go : (s : StepEnd) → nextStep p ring cells tape ≡ s → EndsAs (worldOf (p .state) ring cells) s a ring′ cells′
+          → (r ≡ progressAfter p s) × (worldOf (r .state) ring′ cells′ ≡ worldAfter (worldOf (p .state) ring cells) s) × SoundByUse (length ring′) (r .state)
+      go (refused why) h e = let k : St.Refused why (p .state) ≡ St.Finished t evals bytes = sym (e .0) ∙ f in let z : _≡_ {A = ℕ} 0 1 = cc in absurd (omega arith)
+      go (finished next evals′ bytes′) h e =
           let k : St.Finished (next .state) evals′ bytes′ ≡ St.Finished t evals bytes = sym (e .0) ∙ f in
           let x : next .state ≡ t = cc in
           let y : evals′ ≡ evals = cc in
           let z : bytes′ ≡ bytes = cc in
-          (rw (g, x, y, z), rw (g, ← x, e .1, e .2))
+          (rw (g, x, y, z), rw (g, ← x, e .1, e .2), rw (g, ← x, e .1) (step-sound true (worldOf (p .state) ring cells) (drop (p .tape) tape) next evals′ bytes′ held h))
 
   -- what it took is small
   pub step-sums : (t : State) (evals bytes : ℕ) → a ≡ St.Finished t evals bytes → (bytes ≤ length (drop (p .tape) tape)) × (evals ≤ 24)
@@ -351,6 +363,9 @@ module _ (budget : ℕ) (s : State) (ring cells tape : List ℕ) (t : Bool) (is-
         let u : soundRecord (length ring) s ≡ true = sym is-t ∙ granted t h in
         let l : length cells < pixelCount (s .picture) = rw is-n at k in
         rw (u, lt-leb (pixelCount (s .picture)) (length cells) l) (refl, refl, refl)
+
+    pub run-sound : soundRecord (length ring) s ≡ true
+    run-sound = sym is-t ∙ granted t h
 
     pub run-enough : n ≤ length cells → leb (pixelCount (s .picture)) (length cells) ≡ true
     run-enough k = le-leb (pixelCount (s .picture)) (length cells) (rw is-n at k)

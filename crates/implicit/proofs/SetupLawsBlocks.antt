@@ -1,23 +1,22 @@
 -- What holds of each first block: where it stands, that it can be queued and comes out as it went in, that it is not damaged, and that it covers every pixel.
 -- Assumes nothing.
 use mathlib.Core.Path.{_≡_, refl, sym, ap, _∙_, subst}
-use mathlib.Core.Bool.{Bool, true, false, cond, not, _&&_, _||_, true≢false, false≢true}
+use mathlib.Core.Bool.{Bool, true, false, not, _&&_, _||_, true≢false, false≢true}
 use mathlib.Core.List.{List, [], _∷_}
-use Prim.Native.Nat.{ℕ, zero, suc, _+_, _-_, _*_, _^_, _≤_, _<_}
+use Prim.Native.Nat.{ℕ, _+_, _*_, _^_, _≤_, _<_}
 use native.Mathlib.Omega.{arith}
 use native.Mathlib.Nat.{mul-pos}
-use lib.Dec.{lit<, leb, ltb, eqb}
+use lib.Dec.{lit<, leb, ltb}
 use lib.ListN.{length}
 use borrow.Author.Tests.{lt-ltb, le-leb}
 use Rattle.base.proofs.Test.{and-both, cases}
 use Rattle.coordinate.specs.declared.Coordinate.{Coordinate}
-use Rattle.coordinate.specs.Axis.{ordinaryFloor, inRange, inside, places, covers1}
+use Rattle.coordinate.specs.Axis.{ordinaryFloor, inRange, inside, covers1}
 use Rattle.coordinate.specs.Lone.{legal}
 use Rattle.coordinate.proofs.PixelLaws.{Ranged, places-one}
 use Rattle.coordinate.proofs.CoverLaws.{root-covers}
 use Rattle.interval.specs.declared.Interval.{Interval}
-use Rattle.interval.specs.declared.Pieces.{Pieces}
-use Rattle.interval.specs.Bounds.{InFormat, legalInterval, putInterval, wholeBound}
+use Rattle.interval.specs.Bounds.{InFormat, legalInterval, putInterval}
 use Rattle.interval.specs.Answers.{piecesOf}
 use Rattle.interval.proofs.Legality.{put-legal, put-again}
 use Rattle.interval.proofs.ProperPieces.{Proper, Each, few-count, put-format}
@@ -25,23 +24,21 @@ use Rattle.interval.proofs.CutAnswers.{Pieced, first-good}
 use Rattle.queue.specs.declared.Block.{Block}
 use Rattle.queue.specs.declared.directions.Direction.{Direction}
 use Rattle.queue.specs.declared.directions.Direction.the-variants as D
-use Rattle.queue.specs.declared.directions.DirectionAt.{DirectionAt}
-use Rattle.queue.specs.declared.directions.DirectionAt.the-variants as A
 use Rattle.queue.specs.Directions.{inUse, directions, directionAt}
-use Rattle.queue.specs.Block.{wholeLine, isInteger, parameterOf, withParameter, settledAt}
+use Rattle.queue.specs.Block.{wholeLine, isInteger, parameterOf, settledAt}
+use Rattle.queue.specs.Code.{legalIfUsed}
 use Rattle.queue.proofs.RoundTrip.{ParameterFine, CanQueue}
-use Rattle.queue.proofs.KeptLaws.{line-fine}
+use Rattle.queue.proofs.KeptLaws.{line-fine, fine-legal}
 use Rattle.queue.proofs.QueueLaws.{Every}
 use Rattle.decide.specs.declared.Picture.{Picture}
 use Rattle.decide.specs.Damage.{undamaged, directionRight, directionOf, cuttable}
-use Rattle.decide.proofs.DamageLaws.{LegalParameters, Placed, Undamaged, undamaged-is}
+use Rattle.decide.proofs.DamageLaws.{undamaged-is}
 use Rattle.implicit.specs.declared.state.Ranges.{Ranges}
-use Rattle.implicit.specs.declared.begin.Product.{Product}
-use Rattle.implicit.specs.Setup.{startLevel, rootBlock, firstBlocks, usedLegal, rangesLegal}
+use Rattle.implicit.specs.Setup.{startLevel, rootBlock, firstBlocks, rangesLegal}
 use Rattle.implicit.specs.Product.{piecesKept, productOf, pieceCount, productCount}
 use Rattle.implicit.proofs.SetupLawsLevel.{level-most, level-width, level-height}
 use Rattle.implicit.proofs.SetupLawsProduct.{nine, more, most}
-use Rattle.implicit.proofs.SetupLawsFirst.{every-each, LegalRanges, legal-ranges, kept-used, kept-unused, cutM, cutN, cutTheta, productList, first-is, count-is}
+use Rattle.implicit.proofs.SetupLawsFirst.{every-each, legal-ranges, kept-used, kept-unused, cutM, cutN, cutTheta, productList, first-is, count-is}
 
 -- the ranges are of f64s, as all are that code holds
 abbrev pub RangesHeld : Ranges → Type 0
@@ -71,7 +68,7 @@ each-fine : (used integer : Bool) (ps : List Interval) → used ≡ true → Eac
 each-fine used integer [] u h = tt
 each-fine used integer (p ∷ ps) u h = (record { proper = λ q. h .0; line = λ q. absurd (true≢false (sym u ∙ q)) }, each-fine used integer ps u (h .1))
 
-module _ (set : ℕ) (d : Direction) (x : Interval) (f : InFormat x) (h : usedLegal set d x ≡ true) where
+module _ (set : ℕ) (d : Direction) (x : Interval) (f : InFormat x) (h : legalIfUsed set d x ≡ true) where
   first-kept : (u : inUse set d ≡ true) → Pieced (isInteger d) (piecesOf (piecesKept set d x))
   first-kept u =
       let e : legalInterval x (isInteger d) ≡ true = rw u at h in
@@ -150,15 +147,6 @@ first-can p b f = record { x = rw (f .x) (start-ranged p); y = rw (f .y) (start-
     fine D.N = f .n
     fine D.Theta = f .theta
     fine D.T = f .t
-
-pub line-legal : (integer : Bool) → legalInterval wholeLine integer ≡ true
-unfolding legalInterval wholeBound lib.Ieee.le
-line-legal true = refl
-line-legal false = refl
-
-pub fine-legal : (used integer : Bool) (x : Interval) → ParameterFine used integer x → legalInterval x integer ≡ true
-fine-legal true integer x f = f .proper refl .legal
-fine-legal false integer x f = rw (f .line refl) (line-legal integer)
 
 start-legal : (p : Picture) → legal ordinaryFloor (startCoordinate p) ≡ true
 unfolding inRange

@@ -1,36 +1,36 @@
 -- The list of the first blocks: it is the product, block by block, of the pieces of each parameter. Assumes nothing.
 use mathlib.Core.Path.{_≡_, refl, sym, ap, ap₂, _∙_}
-use mathlib.Core.Bool.{Bool, true, false, cond, not, _&&_, _||_, false≢true}
-use mathlib.Core.List.{List, [], _∷_, _++_, map, append-nil}
+use mathlib.Core.Bool.{Bool, true, false, cond, not}
+use mathlib.Core.List.{List, [], _∷_, _++_, map}
 use Prim.Native.Nat.{ℕ, zero, suc, _+_, _-_, _*_, _/_, _%_, _≤_, _<_}
 use native.Mathlib.Omega.{arith}
 use native.Mathlib.Nat.{zero-mul, suc-mul, one-mul, mod-eq-of-lt, div-eq-of-lt, add-mul-div-right, add-mul-mod-self-right, div-lt-iff-lt-mul}
 use native.Mathlib.Decide.{decLt}
-use lib.ListN.{length, getD, length-append, length-map, List·getD-append, List·getD-map}
+use lib.ListN.{length, getD, length-append, length-map, List·getD-append}
 use lib.Seq.{getD-append-add}
 use borrow.Author.Tests.{leb-true}
-use Rattle.base.proofs.Test.{by-test, and-left, and-right, cond-yes, cond-no}
+use Rattle.base.proofs.Test.{by-test, and-left, and-right}
 use Rattle.interval.specs.declared.Interval.{Interval}
 use Rattle.interval.specs.declared.Pieces.{Pieces}
-use Rattle.interval.specs.declared.Pieces.the-variants as C
 use Rattle.interval.specs.Bounds.{legalInterval, putInterval, sameInterval}
 use Rattle.interval.specs.Cuts.{widthIs, keepIf, unlikeNext, deduped, legalThree, spanOf, firstCut}
-use Rattle.interval.specs.Answers.{piecesFrom, piecesAt, piecesOf}
+use Rattle.interval.specs.Answers.{piecesFrom, piecesOf}
 use Rattle.queue.specs.declared.Block.{Block}
 use Rattle.queue.specs.declared.directions.Direction.{Direction}
 use Rattle.queue.specs.declared.directions.Direction.the-variants as D
-use Rattle.queue.specs.Directions.{inUse, parameters}
+use Rattle.queue.specs.Directions.{inUse}
 use Rattle.queue.specs.Block.{wholeLine, isInteger, parameterOf, withParameter, settledAt}
+use Rattle.queue.specs.Code.{legalIfUsed, parametersLegal}
+use Rattle.queue.proofs.QueueableLaws.{each-legal}
 use Rattle.interval.proofs.ProperPieces.{Each}
 use Rattle.queue.proofs.QueueLaws.{Every}
 use Rattle.decide.specs.declared.Picture.{Picture}
 use Rattle.decide.specs.Damage.{legalSet}
 use Rattle.implicit.specs.declared.state.Ranges.{Ranges}
 use Rattle.implicit.specs.declared.begin.Product.{Product}
-use Rattle.implicit.specs.declared.begin.Chosen.{Chosen}
-use Rattle.implicit.specs.Setup.{rootBlock, eachCutFirst, cutFirstIn, firstBlocks, usedLegal, rangesLegal}
-use Rattle.implicit.specs.Product.{piecesKept, productOf, pieceCount, pieceAt, chosenBy, productCount, productAt}
-use Rattle.implicit.proofs.SetupLawsProduct.{Some, some}
+use Rattle.implicit.specs.Setup.{rootBlock, eachCutFirst, cutFirstIn, firstBlocks, rangesLegal}
+use Rattle.implicit.specs.Product.{piecesKept, productOf, pieceCount, pieceAt, productCount, productAt}
+use Rattle.implicit.proofs.SetupLawsProduct.{some}
 
 -- EACH BLOCK WITH EACH PIECE
 
@@ -137,7 +137,7 @@ pieces-back (p ∷ q ∷ r ∷ []) h = refl
 pieces-back (p ∷ q ∷ r ∷ o ∷ l) h = absurd (omega arith)
 
 -- the pieces kept of a range that is legal or not used
-pub kept-used : (set : ℕ) (d : Direction) (range : Interval) → inUse set d ≡ true → usedLegal set d range ≡ true
+pub kept-used : (set : ℕ) (d : Direction) (range : Interval) → inUse set d ≡ true → legalIfUsed set d range ≡ true
     → piecesOf (piecesKept set d range) ≡ firstCut (putInterval range) (isInteger d)
 unfolding piecesKept
 kept-used set d range u h =
@@ -172,7 +172,7 @@ each-line d [] h = refl
 each-line d (b ∷ l) h = ap₂ _∷_ (sym (with-same b d) ∙ ap (withParameter b d) (h .0)) (each-line d l (h .1))
 
 -- a list of blocks that were not cut along a parameter, cut first along it where it is used
-pub one-cut : (set : ℕ) (d : Direction) (range : Interval) (l : List Block) → usedLegal set d range ≡ true → Every (λ b. parameterOf b d ≡ settledAt (inUse set d) range) l
+pub one-cut : (set : ℕ) (d : Direction) (range : Interval) (l : List Block) → legalIfUsed set d range ≡ true → Every (λ b. parameterOf b d ≡ settledAt (inUse set d) range) l
     → cond (inUse set d) (eachCutFirst d l) l ≡ eachWith d (piecesOf (piecesKept set d range)) l
 one-cut set d range l h a = go (inUse set d) refl
   where
@@ -184,28 +184,17 @@ one-cut set d range l h a = go (inUse set d) refl
 
 pub record LegalRanges (set : ℕ) (r : Ranges) : Type 0 where
   pub set-most : set ≤ 63
-  pub m : usedLegal set D.M (r .m) ≡ true
-  pub n : usedLegal set D.N (r .n) ≡ true
-  pub theta : usedLegal set D.Theta (r .theta) ≡ true
-  pub t : usedLegal set D.T (r .t) ≡ true
+  pub m : legalIfUsed set D.M (r .m) ≡ true
+  pub n : legalIfUsed set D.N (r .n) ≡ true
+  pub theta : legalIfUsed set D.Theta (r .theta) ≡ true
+  pub t : legalIfUsed set D.T (r .t) ≡ true
 
 pub legal-ranges : (set : ℕ) (r : Ranges) → rangesLegal set r ≡ true → LegalRanges set r
 unfolding rangesLegal
 legal-ranges set r e =
-    let a = usedLegal set D.M (r .m) in
-    let b = usedLegal set D.N (r .n) in
-    let c = usedLegal set D.Theta (r .theta) in
-    let d = usedLegal set D.T (r .t) in
-    let e₃ = and-left (legalSet set && a && b && c) d e in
-    let e₂ = and-left (legalSet set && a && b) c e₃ in
-    let e₁ = and-left (legalSet set && a) b e₂ in
-    record {
-      set-most = leb-true set 63 (and-left (legalSet set) a e₁);
-      m = and-right (legalSet set) a e₁;
-      n = and-right (legalSet set && a) b e₂;
-      theta = and-right (legalSet set && a && b) c e₃;
-      t = and-right (legalSet set && a && b && c) d e;
-    }
+    let fine : Bool = parametersLegal set (r .m) (r .n) (r .theta) (r .t) in
+    let (m, n, theta, t) = each-legal set (r .m) (r .n) (r .theta) (r .t) (and-right (legalSet set) fine e) in
+    record { set-most = leb-true set 63 (and-left (legalSet set) fine e); m = m; n = n; theta = theta; t = t }
 
 -- the product, as a list: cut along m, then n, then n_theta, then t
 abbrev pub cutM : Product → List Block

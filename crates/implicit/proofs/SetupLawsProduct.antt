@@ -1,31 +1,26 @@
 -- The first blocks one by one: the i-th of the product is the i-th of the list. Assumes nothing.
-use mathlib.Core.Path.{_≡_, refl, sym, ap, ap₂, _∙_}
-use mathlib.Core.Bool.{Bool, true, false, cond, not, _||_, false≢true}
-use mathlib.Core.List.{List, [], _∷_, _++_, map}
-use Prim.Native.Nat.{ℕ, zero, suc, _+_, _-_, _*_, _/_, _%_, _≤_, _<_}
+use mathlib.Core.Path.{_≡_, sym, ap, _∙_}
+use mathlib.Core.Bool.{Bool, true, false}
+use mathlib.Core.List.{List, _∷_}
+use Prim.Native.Nat.{ℕ, zero, suc, _+_, _*_, _/_, _%_, _≤_, _<_}
 use native.Mathlib.Omega.{arith}
-use native.Mathlib.Nat.{zero-mul, suc-mul, mul-le-mul, mod-lt, mod-eq-of-lt, div-eq-of-lt, add-mul-div-right, add-mul-mod-self-right, one-mul, le-trans, div-lt-iff-lt-mul}
-use native.Mathlib.Decide.{decLt}
-use lib.ListN.{length, getD, length-append, length-map, List·getD-append, List·getD-map}
-use lib.Seq.{getD-append-add}
-use Rattle.base.proofs.Test.{by-test}
+use native.Mathlib.Nat.{zero-mul, mul-le-mul}
 use Rattle.interval.specs.declared.Interval.{Interval}
 use Rattle.interval.specs.declared.Pieces.{Pieces}
 use Rattle.interval.specs.declared.Pieces.the-variants as C
-use Rattle.interval.specs.Bounds.{legalInterval, putInterval, sameInterval}
-use Rattle.interval.specs.Cuts.{widthIs, keepIf, unlikeNext, deduped, legalThree, spanOf, firstCut}
-use Rattle.interval.specs.Answers.{piecesFrom, piecesAt, piecesOf}
+use Rattle.interval.specs.Bounds.{legalInterval, putInterval}
+use Rattle.interval.specs.Cuts.{firstCut}
+use Rattle.interval.specs.Answers.{piecesAt, piecesOf}
 use Rattle.queue.specs.declared.Block.{Block}
 use Rattle.queue.specs.declared.directions.Direction.{Direction}
 use Rattle.queue.specs.declared.directions.Direction.the-variants as D
-use Rattle.queue.specs.Directions.{inUse, parameters}
-use Rattle.queue.specs.Block.{wholeLine, isInteger, parameterOf, withParameter, settledAt, settled}
-use Rattle.queue.proofs.QueueLaws.{Every}
+use Rattle.queue.specs.Directions.{inUse}
+use Rattle.queue.specs.Block.{wholeLine, isInteger, withParameter, settled}
 use Rattle.decide.specs.declared.Picture.{Picture}
 use Rattle.implicit.specs.declared.state.Ranges.{Ranges}
 use Rattle.implicit.specs.declared.begin.Product.{Product}
 use Rattle.implicit.specs.declared.begin.Chosen.{Chosen}
-use Rattle.implicit.specs.Setup.{startLevel, rootBlock, eachCutFirst, cutFirstIn, firstBlocks, usedLegal}
+use Rattle.implicit.specs.Setup.{startLevel, rootBlock}
 use Rattle.implicit.specs.Product.{piecesKept, productOf, pieceCount, pieceAt, chosenBy, productCount, productAt}
 
 -- THE WHOLE BLOCK

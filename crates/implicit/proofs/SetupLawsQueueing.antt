@@ -1,8 +1,8 @@
 -- The first blocks written into the ring one after the other: what is left to write from the i-th on is what was to write. Assumes nothing.
 use mathlib.Core.Path.{_≡_, refl, sym, ap, ap₂, _∙_}
-use mathlib.Core.Bool.{Bool, true, false, cond, _&&_, false≢true}
-use mathlib.Core.List.{List, [], _∷_, _++_}
-use Prim.Native.Nat.{ℕ, zero, suc, _+_, _-_, _*_, _≤_, _<_}
+use mathlib.Core.Bool.{Bool, true, false, false≢true}
+use mathlib.Core.List.{List, [], _∷_}
+use Prim.Native.Nat.{ℕ, _+_, _-_, _≤_}
 use native.Mathlib.Omega.{arith}
 use native.Mathlib.Nat.{add-zero, zero-add}
 use lib.Dec.{leb, ltb}
@@ -13,12 +13,12 @@ use Rattle.queue.specs.declared.Block.{Block}
 use Rattle.queue.specs.declared.Last.{Last}
 use Rattle.queue.specs.declared.Appended.{Appended}
 use Rattle.queue.specs.declared.Appended.the-variants as A
-use Rattle.queue.specs.Directions.{parameters}
 use Rattle.queue.specs.Block.{startingLast, settled, remembered}
-use Rattle.queue.specs.Code.{encode, placeCode, parametersCode}
+use Rattle.queue.specs.Code.{encode}
 use Rattle.queue.specs.Ring.{fitsRing, wrapped, stored, storedBehind}
-use Rattle.queue.specs.Queue.{codable, codeOfKept, appended, appendedRing, queueCodes, memory}
+use Rattle.queue.specs.Queue.{codable, appended, appendedRing, queueCodes, memory}
 use Rattle.queue.proofs.RingLaws.{length-stored, store-append}
+use Rattle.queue.proofs.QueueLaws.{encode-some}
 use Rattle.queue.proofs.RoundTrip.{CanQueue, Known}
 use Rattle.queue.proofs.KeptLaws.{known-after, known-start}
 use Rattle.decide.specs.declared.Picture.{Picture}
@@ -78,13 +78,6 @@ pub record Queueing (set : ℕ) (bs : List Block) (ring₀ : List ℕ) (i : ℕ)
   pub left : k .used + length (queueCodes set (k .back) (drop i bs)) ≡ length (queueCodes set startingLast bs)
   pub bytes : storedBehind ring 0 (k .used) (queueCodes set (k .back) (drop i bs)) ≡ stored ring₀ 0 (queueCodes set startingLast bs)
   pub last : memory (k .back) (drop i bs) ≡ memory startingLast bs
-
--- a code is no empty list
-pub encode-some : (set : ℕ) (last : Last) (b : Block) → 1 ≤ length (encode set last b)
-unfolding encode
-encode-some set last b =
-    let ps : List ℕ = parametersCode set last b parameters in
-    omega (arith, length-append (placeCode last b) (ps ++ (b .dir ∷ [])), length-append ps (b .dir ∷ []))
 
 -- byte 0 is the first behind none
 pub behind-none : (ring bs : List ℕ) → storedBehind ring 0 0 bs ≡ stored ring 0 bs

@@ -5,7 +5,7 @@ use Prim.Native.Nat.{ℕ, _*_, _≤_, _<_}
 use lib.Dec.{leb}
 use lib.ListN.{length}
 use borrow.Author.Tests.{leb-true, le-leb, lt-leb}
-use Rattle.base.proofs.Test.{and-left, and-right, cases}
+use Rattle.base.proofs.Test.{and-left, and-right}
 use Rattle.refusal.specs.declared.Refusal.{Refusal}
 use Rattle.refusal.specs.declared.Refusal.the-variants as R
 use Rattle.queue.proofs.QueueAnswers.{denied, granted}
@@ -18,10 +18,7 @@ use Rattle.implicit.specs.declared.begin.SetupEnd.{SetupEnd}
 use Rattle.implicit.specs.declared.begin.SetupEnd.the-variants as E
 use Rattle.implicit.specs.Record.{pixelCount}
 use Rattle.implicit.specs.Setup.{rangesLegal, firstBytes, setupRefusal, leastRing}
-
-bytesNeeded : Needed → ℕ
-bytesNeeded (N.Bytes n) = n
-bytesNeeded (N.Refused why) = 0
+use Rattle.implicit.specs.Answers.{neededBytes}
 
 hasNeed : Needed → Bool
 hasNeed (N.Bytes n) = true
@@ -80,11 +77,11 @@ module _ (p : Picture) (r : Ranges) (a b : Bool) (ea : a ≡ legalSide (p .width
 
 -- a setup with enough cells begins exactly if its ring is no shorter
 pub least-suffices : (p : Picture) (r : Ranges) (len count n : ℕ) → leastRing p r ≡ N.Bytes n → pixelCount p ≤ count → n ≤ len → setupRefusal p r len count ≡ E.Begun
-unfolding leastRing setupRefusal bytesNeeded
+unfolding leastRing setupRefusal
 least-suffices p r len count n e cells room =
     let (sides, e₁) = needs-first (legalSide (p .width) && legalSide (p .height)) _ n R.Side e in
     let (ranges, e₂) = needs-first (rangesLegal (p .set) r) _ n R.Parameter e₁ in
-    let total : length (firstBytes p r) ≡ n = ap bytesNeeded e₂ in
+    let total : length (firstBytes p r) ≡ n = ap neededBytes e₂ in
     rw (sides, le-leb (pixelCount p) count cells, ranges, total, le-leb n len room)
 
 -- AN ACCEPTED SETUP

@@ -1,8 +1,8 @@
 -- The record, the ring and the cells that a setup leaves, as the code puts them together; and the answer. Assumes nothing.
-use mathlib.Core.Path.{_≡_, refl, sym, ap, _∙_}
+use mathlib.Core.Path.{_≡_, sym, ap, _∙_}
 use mathlib.Core.Bool.{true}
 use mathlib.Core.List.{List}
-use Prim.Native.Nat.{ℕ, _-_, _≤_}
+use Prim.Native.Nat.{ℕ, _-_}
 use lib.ListN.{length}
 use Rattle.refusal.specs.declared.Refusal.{Refusal}
 use Rattle.image.specs.declared.PixelRange.{PixelRange}
@@ -15,7 +15,6 @@ use Rattle.queue.proofs.RingLaws.{length-stored}
 use Rattle.decide.specs.declared.Picture.{Picture}
 use Rattle.implicit.specs.declared.state.State.{State}
 use Rattle.implicit.specs.declared.state.Ranges.{Ranges}
-use Rattle.implicit.specs.declared.state.Started.{Started}
 use Rattle.implicit.specs.declared.state.Started.the-variants as S
 use Rattle.implicit.specs.declared.begin.Product.{Product}
 use Rattle.implicit.specs.declared.begin.Behind.{Behind}
@@ -23,7 +22,7 @@ use Rattle.implicit.specs.declared.begin.SetupEnd.{SetupEnd}
 use Rattle.implicit.specs.declared.begin.SetupEnd.the-variants as E
 use Rattle.implicit.specs.Setup.{firstBlocks, firstBytes, rangesLegal, setupRefusal, startRecord, startRing, startCells, startedAnswer, ringBegun, cellsBegun}
 use Rattle.implicit.specs.Product.{productOf, productCount, behindFirst}
-use Rattle.implicit.proofs.SetupLawsFirst.{productList, first-is, count-is}
+use Rattle.implicit.proofs.SetupLawsFirst.{first-is, count-is}
 
 -- the count of the product is that of the first blocks
 pub count-first : (p : Picture) (r : Ranges) (f : Product) (n : ℕ) → rangesLegal (p .set) r ≡ true → f ≡ productOf p r → n ≡ productCount f → n ≡ length (firstBlocks p r)

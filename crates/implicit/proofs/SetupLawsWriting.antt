@@ -1,36 +1,31 @@
 -- The first blocks queued one after the other, first counted, then written: what is left to do from the i-th on is what was to do. Assumes nothing.
-use mathlib.Core.Path.{_≡_, refl, sym, ap, _∙_, subst}
-use mathlib.Core.Bool.{Bool, true, false, cond, not, _&&_, _||_, false≢true}
+use mathlib.Core.Path.{_≡_, sym, ap, _∙_, subst}
+use mathlib.Core.Bool.{Bool, true, false, _&&_, false≢true}
 use mathlib.Core.List.{List, [], _∷_, _++_}
-use Prim.Native.Nat.{ℕ, zero, suc, _+_, _-_, _*_, _≤_, _<_}
+use Prim.Native.Nat.{ℕ, _+_, _*_, _≤_, _<_}
 use native.Mathlib.Omega.{arith}
 use native.Mathlib.Numerals.{add-one}
 use native.Mathlib.Nat.{add-zero, zero-add}
 use lib.Dec.{leb}
 use lib.ListN.{length, getD, drop, length-append, drop-of-length-le}
 use lib.Seq.{drop-cons}
-use Rattle.base.proofs.Test.{and-both, and-left, and-right}
-use Rattle.interval.specs.declared.Interval.{Interval}
-use Rattle.interval.specs.Bounds.{legalInterval}
+use Rattle.base.proofs.Test.{and-left, and-right}
 use Rattle.queue.specs.declared.Block.{Block}
 use Rattle.queue.specs.declared.Last.{Last}
 use Rattle.queue.specs.declared.Measured.{Measured}
 use Rattle.queue.specs.declared.Measured.the-variants as M
-use Rattle.queue.specs.declared.directions.Direction.{Direction}
-use Rattle.queue.specs.declared.directions.Direction.the-variants as D
-use Rattle.queue.specs.Directions.{inUse}
-use Rattle.queue.specs.Block.{startingLast, isInteger, settled, remembered}
-use Rattle.queue.specs.Code.{encode, canQueue, indicesKnown}
-use Rattle.queue.specs.Queue.{codable, measured, queueCodes, memory}
+use Rattle.queue.specs.Block.{startingLast, settled, remembered}
+use Rattle.queue.specs.Code.{encode, parametersLegal, canQueue, indicesKnown}
+use Rattle.queue.specs.Queue.{codable, measured, queueCodes}
 use Rattle.queue.proofs.QueueableLaws.{encode-few}
 use Rattle.queue.proofs.RoundTrip.{CanQueue, Known}
-use Rattle.queue.proofs.KeptLaws.{known-after, known-start, known-test, can-test, settled-is}
+use Rattle.queue.proofs.KeptLaws.{known-after, known-start, known-test, can-test}
 use Rattle.queue.proofs.QueueLaws.{Every}
 use Rattle.decide.specs.declared.Picture.{Picture}
 use Rattle.implicit.specs.declared.state.Ranges.{Ranges}
 use Rattle.implicit.specs.declared.begin.Product.{Product}
 use Rattle.implicit.specs.declared.begin.Behind.{Behind}
-use Rattle.implicit.specs.Setup.{firstBlocks, firstBytes, usedLegal, rangesLegal}
+use Rattle.implicit.specs.Setup.{firstBytes, rangesLegal}
 use Rattle.implicit.specs.Product.{productOf, productCount, productAt, behindWith}
 use Rattle.implicit.proofs.SetupLawsFirst.{every-at, every-sub, productList, first-is, count-is, at-is}
 use Rattle.implicit.proofs.SetupLawsBlocks.{RangesHeld, FirstBlock, product-first, first-can}
@@ -54,9 +49,6 @@ module _ (f : Product) (n i : ℕ) (b : Block) (counts : n ≡ productCount f) (
 -- every block of a legal setup's product can be queued
 pub product-can : (p : Picture) (r : Ranges) (f : Product) → f ≡ productOf p r → RangesHeld r → rangesLegal (p .set) r ≡ true → Every (CanQueue (p .set)) (productList f)
 product-can p r f e held ok = rw e (every-sub (FirstBlock p) (CanQueue (p .set)) (first-can p) (productList (productOf p r)) (product-first p r held ok))
-
-pub can-code : (set : ℕ) (back : Last) (b : Block) → Known back → CanQueue set b → codable set back b ≡ true
-can-code set back b k c = and-both (canQueue set b) (indicesKnown back) (can-test set b c) (known-test back k)
 
 pub product-bytes : (p : Picture) (r : Ranges) (f : Product) → f ≡ productOf p r → rangesLegal (p .set) r ≡ true → queueCodes (p .set) startingLast (productList f) ≡ firstBytes p r
 unfolding firstBytes
@@ -126,13 +118,6 @@ module _ (set : ℕ) (k : Behind) (b : Block) (can : codable set (k .back) b ≡
 
 -- THE RANGES
 
-pub unused-legal : (set : ℕ) (d : Direction) (x : Interval) (u : Bool) → u ≡ inUse set d → not u ≡ true → true ≡ usedLegal set d x
-unused-legal set d x u e h = rw (← e, h)
-
-pub used-legal : (set : ℕ) (d : Direction) (x : Interval) (u i l : Bool) → u ≡ inUse set d → not u ≡ false → i ≡ isInteger d → l ≡ legalInterval x i → l ≡ usedLegal set d x
-used-legal set d x u i l e h f g = rw (← e, h, g, f)
-
-pub ranges-legal-as : (set : ℕ) (r : Ranges) (m n theta t : Bool) → m ≡ usedLegal set D.M (r .m) → n ≡ usedLegal set D.N (r .n) → theta ≡ usedLegal set D.Theta (r .theta) → t ≡ usedLegal set D.T (r .t)
-    → (leb set 63 && m && n && theta && t) ≡ rangesLegal set r
+pub ranges-legal-as : (set : ℕ) (r : Ranges) (fine : Bool) → fine ≡ parametersLegal set (r .m) (r .n) (r .theta) (r .t) → (leb set 63 && fine) ≡ rangesLegal set r
 unfolding rangesLegal
-ranges-legal-as set r m n theta t e f g h = rw (e, f, g, h)
+ranges-legal-as set r fine e = rw e

@@ -1,18 +1,18 @@
 -- The step, stage by stage: what a finished one has been through, and that the code's checks and its writing are the definition's. Assumes nothing.
-use mathlib.Core.Path.{_≡_, refl, sym, ap, ap₂, _∙_}
-use mathlib.Core.Bool.{Bool, true, false, not, cond, _&&_, true≢false, false≢true}
-use mathlib.Core.List.{List, [], _∷_, _++_}
+use mathlib.Core.Path.{_≡_, refl, sym, ap, _∙_}
+use mathlib.Core.Bool.{Bool, true, false, not, cond}
+use mathlib.Core.List.{List, _++_}
 use lib.ListN as L
-use Prim.Native.Nat.{ℕ, zero, suc, _+_, _-_, _*_, _^_, _≤_, _<_}
+use Prim.Native.Nat.{ℕ, _+_, _-_, _^_, _≤_, _<_}
 use native.Mathlib.Omega.{arith}
-use lib.Dec.{leb, ltb, eqb}
-use lib.ListN.{length, take, replicate, length-append, length-replicate, length-take}
-use borrow.Author.Tests.{leb-true, ltb-true, eqb-true, le-leb, lt-ltb, le-ltb}
-use Rattle.base.proofs.Test.{cases, by-test, and-left, and-right, and-both, cond-yes}
-use Rattle.base.specs.Event.{Event, queuedBy}
+use lib.Dec.{leb, ltb}
+use lib.ListN.{length, take, replicate, length-append, length-replicate}
+use borrow.Author.Tests.{leb-true, ltb-true, eqb-true, lt-ltb}
+use Rattle.base.proofs.Test.{cases, by-test, and-left, and-both, cond-yes, cond-no}
+use Rattle.base.specs.Event.{queuedBy}
 use Rattle.refusal.specs.declared.Refusal.{Refusal}
 use Rattle.refusal.specs.declared.Refusal.the-variants as R
-use Rattle.image.specs.Cell.{Cell, meanings, meaningOf}
+use Rattle.image.specs.Cell.{meanings, meaningOf}
 use Rattle.queue.specs.declared.Block.{Block}
 use Rattle.queue.specs.declared.Last.{Last}
 use Rattle.queue.specs.declared.Taken.{Taken}
@@ -23,24 +23,24 @@ use Rattle.queue.specs.Block.{remembered}
 use Rattle.queue.specs.Ring.{content, fitsRing, wrapped}
 use Rattle.queue.specs.Code.{indicesKnown}
 use Rattle.queue.specs.Decode.{decode}
-use Rattle.queue.specs.Queue as Queue
 use Rattle.queue.specs.Queue.{taken, takenWith}
 use Rattle.queue.proofs.QueueAnswers.{fits-both}
 use Rattle.queue.proofs.BlockReading.{inside-read, decode-inside}
 use Rattle.queue.proofs.RingLaws.{content-length}
 use Rattle.decide.specs.declared.Picture.{Picture}
-use Rattle.decide.specs.declared.plan.Plan.{Plan}
-use Rattle.decide.specs.declared.plan.Planned.{Planned}
-use Rattle.decide.specs.declared.turn.Turned.{Turned}
-use Rattle.decide.specs.declared.turn.Turned.the-variants as Tu
-use Rattle.decide.specs.declared.verdict.Outcome.{Outcome}
+use Rattle.decide.specs.declared.children.Children.{Children}
+use Rattle.queue.proofs.RoundTrip.{CanQueue}
+use Rattle.plan.specs.declared.Plan.{Plan}
 use Rattle.decide.specs.Damage.{legalPicture, undamaged, cellDamaged, sound}
-use Rattle.decide.specs.Children.{childrenOf}
-use Rattle.decide.specs.Verdict.{allLegal, isOpen}
+use Rattle.decide.specs.Children.{childrenOf, listed}
+use Rattle.plan.specs.AtOnce.{planListed}
+use Rattle.decide.specs.Verdict.{allLegal}
 use Rattle.decide.specs.Turn.{turned}
-use Rattle.decide.specs.Plan.{openCount, outcomes, evaluations, markEvents, turnEvent, turnEvents, eventsFor, untouched, plannedAll, plannedList, planFrom, enoughCells, plannedFor, planOf}
+use Rattle.plan.specs.Plan.{openCount, evaluations, markEvents, turnEvents, eventsFor, untouched, plannedAll, planFrom, enoughCells, planOf}
 use Rattle.decide.proofs.ListingLaws.{children-few}
-use Rattle.decide.proofs.PlanLaws.{planned-length}
+use Rattle.plan.proofs.PlanLaws.{planned-length, plan-listed}
+use Rattle.plan.proofs.Each.{each-also}
+use Rattle.plan.proofs.EventLaws.{step-queues, queued-sound}
 use Rattle.implicit.specs.declared.state.State.{State}
 use Rattle.implicit.specs.declared.state.Stepped.{Stepped}
 use Rattle.implicit.specs.declared.state.Stepped.the-variants as S
@@ -50,13 +50,13 @@ use Rattle.implicit.specs.declared.advance.Front.{Front}
 use Rattle.implicit.specs.declared.advance.Opened.{Opened}
 use Rattle.implicit.specs.declared.advance.Opened.the-variants as P
 use Rattle.implicit.specs.declared.advance.Size.{Size}
-use Rattle.implicit.specs.Record.{pixelCount, soundLast, soundCounts, soundRing, soundUse, soundRecord, putLast}
+use Rattle.implicit.specs.Record.{pixelCount, soundRecord, putLast}
 use Rattle.implicit.specs.Listing.{frontOf}
-use Rattle.implicit.specs.Step.{World, worldOf, StepEnd, refused, finished, unless, enoughVerdicts, outcomesOf, eventsOf, newBlocks, newBytes, worldLeft, blockFine, judged, opened, stepWith, stepAnswer, worldAfter, EndsAs}
-use Rattle.implicit.specs.ByChild.{openedAs, opening, Begun, blockCheck, sizedAll, sizeOf, planCheck, takenState, committed}
-use Rattle.implicit.proofs.RecordLaws.{SoundRecord, SoundLast, sound-record, sound-last, put-last-sound}
-use Rattle.implicit.proofs.StepLawsKept.{Kept, Formats, AllReady, read-kept, children-ready, queued-ready}
-use Rattle.implicit.proofs.StepLawsByChild.{marksIn, turnsIn, queuedIn, planned-marks, planned-turns, marks-listed, turns-listed, queued-behind-marks, sized-is, Roomy, leftBy, committed-is}
+use Rattle.implicit.specs.Step.{World, worldOf, StepEnd, refused, finished, unless, enoughVerdicts, outcomesOf, eventsOf, newBlocks, newBytes, worldLeft, blockFine, judged, opened, stepWith, EndsAs}
+use Rattle.implicit.specs.ByChild.{openedAs, opening, Begun, blockCheck, sizeOf, planCheck, committed}
+use Rattle.implicit.proofs.RecordLaws.{sound-record, sound-picture}
+use Rattle.implicit.proofs.StepLawsKept.{Formats, AllReady, read-kept, block-fine}
+use Rattle.implicit.proofs.StepLawsByChild.{marksIn, turnsIn, queuedIn, planned-marks, planned-turns, marks-listed, turns-listed, queued-behind-marks, sized-is, leftBy, committed-is}
 
 -- THE FRONT BLOCK THAT WAS READ
 
@@ -99,22 +99,6 @@ front-read ring head used set front b last head′ used′ e =
 wrapped-in : (n p : ℕ) → p < n + n → wrapped n p < n
 wrapped-in n p h = by-test (λ x. x < n) (ltb p n) p (p - n) (λ e. ltb-true p n e) (λ e. omega arith)
 
--- HOW MANY
-
-turn-few : (t : Turned) (es : List (Event Block)) → length (queuedBy (turnEvent t ∷ es)) ≤ suc (length (queuedBy es))
-unfolding queuedBy
-turn-few (Tu.To c) es = omega arith
-turn-few Tu.Nowhere es = omega arith
-
-turns-few : (turn : Block → Turned) (cs : List Block) (os : List Outcome) → length (queuedBy (turnEvents turn cs os)) ≤ length cs
-unfolding turnEvents queuedBy
-turns-few turn [] os = omega arith
-turns-few turn (c ∷ cs) [] = omega arith
-turns-few turn (c ∷ cs) (o ∷ os) =
-    let h = turns-few turn cs os in
-    let rest = turnEvents turn cs os in
-    by-test (λ es. length (queuedBy es) ≤ suc (length cs)) (isOpen o) (turnEvent (turn c) ∷ rest) rest (λ e. omega (arith, turn-few (turn c) rest)) (λ e. omega arith)
-
 -- THE PLAN OF A STEP
 
 -- the plan is the definition's, where there is a cell for each pixel
@@ -148,7 +132,7 @@ plan-from w b own =
       count = refl;
       evals = refl;
       many = refl;
-      few = (let k : length (queuedIn es) ≡ length (queuedBy (turnEvents turn cs os)) = ap (λ x. length (queuedBy x)) t in omega (arith, turns-few turn cs os, ap length q));
+      few = step-queues p b os;
       four = omega (arith, length-append l (replicate n (untouched b)), length-replicate n (untouched b), planned-length turn cs os);
       events = ev;
       queued = q;
@@ -160,6 +144,11 @@ unfolding planOf
 plan-facts w b own p h e =
     let k : enoughCells (w .state .picture) (length (meanings (w .cells))) ≡ true = rw (L.length-map (w .cells) meaningOf) h in
     rw e (rw k (plan-from w b own))
+
+-- from the children that were listed
+pub plan-is : (p : Picture) (b : Block) (vs cells : List ℕ) (k : Children) (r : Plan) → leb (pixelCount p) (length cells) ≡ true → k ≡ listed b (childrenOf p b)
+    → r ≡ planListed p b k vs cells → r ≡ planOf p b vs (meanings cells)
+plan-is p b vs cells k r h e f = f ∙ ap (λ (x : Children). planListed p b x vs cells) e ∙ plan-listed p b vs cells h
 
 -- THE CHECKS, ONE AFTER THE OTHER
 
@@ -198,20 +187,21 @@ opened-as tape w vs (T.Front b last head used) = refl
 opened-as tape w vs T.Damaged = refl
 opened-as tape w vs T.Outside = refl
 
-three-openings : (a b c : Bool) (u v d : Refusal) (o : Opened) (k : Taken → StepEnd)
-    → cond a (cond b (cond c (afterOpening o k) (refused u)) (refused v)) (refused d) ≡ afterOpening (cond a (cond b (cond c o (P.Refused u)) (P.Refused v)) (P.Refused d)) k
-three-openings true true true u v d o k = refl
-three-openings true true false u v d o k = refl
-three-openings true false c u v d o k = refl
-three-openings false b c u v d o k = refl
+two-openings : (a b : Bool) (u v : Refusal) (o : Opened) (k : Taken → StepEnd)
+    → cond a (cond b (afterOpening o k) (refused u)) (refused v) ≡ afterOpening (cond a (cond b o (P.Refused u)) (P.Refused v)) k
+two-openings true true u v o k = refl
+two-openings true false u v o k = refl
+two-openings false b u v o k = refl
 
-pub step-by : (tape : Bool) (w : World) (vs : List ℕ) → stepWith tape w vs ≡ afterOpening (opening (w .state) (w .ring) (length (w .cells))) (opened tape w vs)
+pub step-by : (tape : Bool) (w : World) (vs : List ℕ) → soundRecord (length (w .ring)) (w .state) ≡ true
+    → stepWith tape w vs ≡ afterOpening (opening (w .state) (w .ring) (length (w .cells))) (opened tape w vs)
 unfolding stepWith unless opening
-step-by tape w vs =
+step-by tape w vs h =
     let s = w .state in
-    ap (λ (e : StepEnd). cond (soundRecord (length (w .ring)) s) (cond (leb (pixelCount (s .picture)) (length (w .cells))) (cond (ltb (s .taken) (s .queued)) e (refused R.Empty)) (refused R.Cells)) (refused R.Damaged))
+    cond-yes (soundRecord (length (w .ring)) s) _ _ h
+    ∙ ap (λ (e : StepEnd). cond (leb (pixelCount (s .picture)) (length (w .cells))) (cond (ltb (s .taken) (s .queued)) e (refused R.Empty)) (refused R.Cells))
     (opened-as tape w vs (frontOf s (w .ring)))
-    ∙ three-openings (soundRecord (length (w .ring)) s) (leb (pixelCount (s .picture)) (length (w .cells))) (ltb (s .taken) (s .queued)) R.Empty R.Cells R.Damaged (openedAs (frontOf s (w .ring))) (opened tape w vs)
+    ∙ two-openings (leb (pixelCount (s .picture)) (length (w .cells))) (ltb (s .taken) (s .queued)) R.Empty R.Cells (openedAs (frontOf s (w .ring))) (opened tape w vs)
 
 -- what is known once the front block is read
 opened-front : (t : Taken) (f : Front) → openedAs t ≡ P.At f → t ≡ T.Front (f .block) (f .last) (f .head) (f .used)
@@ -219,31 +209,35 @@ opened-front (T.Front b last head used) f e = let k : record { block = b; last =
 opened-front T.Damaged f e = let z : _≡_ {A = ℕ} 0 1 = cc in absurd (omega arith)
 opened-front T.Outside f e = let z : _≡_ {A = ℕ} 0 1 = cc in absurd (omega arith)
 
-three-at : (a b c : Bool) (u v d : Refusal) (o : Opened) (f : Front) → cond a (cond b (cond c o (P.Refused u)) (P.Refused v)) (P.Refused d) ≡ P.At f
-    → (a ≡ true) × (b ≡ true) × (c ≡ true) × (o ≡ P.At f)
-three-at true true true u v d o f e = (refl, refl, refl, e)
-three-at true true false u v d o f e = let z : _≡_ {A = ℕ} 0 1 = cc in absurd (omega arith)
-three-at true false c u v d o f e = let z : _≡_ {A = ℕ} 0 1 = cc in absurd (omega arith)
-three-at false b c u v d o f e = let z : _≡_ {A = ℕ} 0 1 = cc in absurd (omega arith)
+two-at : (a b : Bool) (u v : Refusal) (o : Opened) (f : Front) → cond a (cond b o (P.Refused u)) (P.Refused v) ≡ P.At f → (a ≡ true) × (b ≡ true) × (o ≡ P.At f)
+two-at true true u v o f e = (refl, refl, e)
+two-at true false u v o f e = let z : _≡_ {A = ℕ} 0 1 = cc in absurd (omega arith)
+two-at false b u v o f e = let z : _≡_ {A = ℕ} 0 1 = cc in absurd (omega arith)
 
-pub begun-of : (s : State) (ring cells : List ℕ) (o : Opened) (f : Front) → o ≡ opening s ring (length cells) → o ≡ P.At f → Begun s ring cells f
+pub begun-of : (s : State) (ring cells : List ℕ) (o : Opened) (f : Front) → soundRecord (length ring) s ≡ true → o ≡ opening s ring (length cells) → o ≡ P.At f → Begun s ring cells f
 unfolding opening
-begun-of s ring cells o f e k =
-    let h = three-at (soundRecord (length ring) s) (leb (pixelCount (s .picture)) (length cells)) (ltb (s .taken) (s .queued)) R.Empty R.Cells R.Damaged (openedAs (frontOf s ring)) f (sym e ∙ k) in
-    record { sound-record = h .0; cells-enough = h .1; not-empty = h .2; front-read = opened-front (frontOf s ring) f (h .3) }
+begun-of s ring cells o f r e k =
+    let h = two-at (leb (pixelCount (s .picture)) (length cells)) (ltb (s .taken) (s .queued)) R.Empty R.Cells (openedAs (frontOf s ring)) f (sym e ∙ k) in
+    record { sound-record = r; cells-enough = h .0; not-empty = h .1; front-read = opened-front (frontOf s ring) f (h .2) }
 
 pub step-begun : (tape : Bool) (s : State) (ring cells vs : List ℕ) (f : Front) → Begun s ring cells f
     → stepWith tape (worldOf s ring cells) vs ≡ opened tape (worldOf s ring cells) vs (T.Front (f .block) (f .last) (f .head) (f .used))
 unfolding stepWith unless
 step-begun tape s ring cells vs f b = rw (b .sound-record, b .cells-enough, b .not-empty, b .front-read)
 
-pub step-refused : (tape : Bool) (s : State) (ring cells vs : List ℕ) (o : Opened) (why : Refusal) → o ≡ opening s ring (length cells) → o ≡ P.Refused why
+pub step-refused : (tape : Bool) (s : State) (ring cells vs : List ℕ) (o : Opened) (why : Refusal) → soundRecord (length ring) s ≡ true → o ≡ opening s ring (length cells) → o ≡ P.Refused why
     → stepWith tape (worldOf s ring cells) vs ≡ refused why
-step-refused tape s ring cells vs o why e k = step-by tape (worldOf s ring cells) vs ∙ ap (λ (x : Opened). afterOpening x (opened tape (worldOf s ring cells) vs)) (sym e ∙ k)
+step-refused tape s ring cells vs o why h e k = step-by tape (worldOf s ring cells) vs h ∙ ap (λ (x : Opened). afterOpening x (opened tape (worldOf s ring cells) vs)) (sym e ∙ k)
 
 -- a refused step leaves all as it was
 pub ends-refused : (w : World) (e : StepEnd) (why : Refusal) → e ≡ refused why → EndsAs w e (S.Refused why (w .state)) (w .ring) (w .cells)
 ends-refused w e why h = rw h (refl, refl, refl)
+
+-- a damaged record is refused
+pub ends-damaged : (tape : Bool) (s : State) (ring cells vs : List ℕ) → soundRecord (length ring) s ≡ false
+    → EndsAs (worldOf s ring cells) (stepWith tape (worldOf s ring cells) vs) (S.Refused R.Damaged s) ring cells
+unfolding stepWith unless
+ends-damaged tape s ring cells vs h = ends-refused (worldOf s ring cells) (stepWith tape (worldOf s ring cells) vs) R.Damaged (cond-no (soundRecord (length ring) s) _ _ h)
 
 -- the block's check, and what follows
 module _ (tape : Bool) (s : State) (ring cells vs : List ℕ) (f : Front) (b : Begun s ring cells f) (n : ℕ) (is-n : n ≡ length (childrenOf (s .picture) (f .block)))
@@ -285,13 +279,6 @@ module _ (tape : Bool) (s : State) (ring cells vs : List ℕ) (f : Front) (b : B
 
 -- WHAT IS KNOWN BEFORE THE FIRST WRITE
 
-first-of : (a b c d e f : Bool) → a && b && c && d && e && f ≡ true → a ≡ true
-first-of a b c d e f h = and-left a b (and-left (a && b) c (and-left (a && b && c) d (and-left (a && b && c && d) e (and-left (a && b && c && d && e) f h))))
-
-pub sound-picture : (len : ℕ) (s : State) → soundRecord len s ≡ true → legalPicture (s .picture) ≡ true
-unfolding soundRecord
-sound-picture len s h = first-of (legalPicture (s .picture)) (soundCounts s) (soundRing len s) (soundUse s) (soundLast (s .front)) (soundLast (s .back)) h
-
 pub block-sound : (s : State) (ring cells : List ℕ) (f : Front) → Begun s ring cells f → blockFine (s .picture) cells (f .block) ≡ true → sound (s .picture) (f .block) ≡ true
 block-sound s ring cells f b h =
     and-both (legalPicture (s .picture)) (undamaged (s .picture) (f .block)) (sound-picture (length ring) s (b .sound-record))
@@ -313,16 +300,14 @@ module _ (s : State) (ring cells : List ℕ) (f : Front) (b : Begun s ring cells
 
   module _ (h : blockFine (s .picture) cells (f .block) ≡ true) (formats : Formats (f .block)) (own : List ℕ) where
     pub new-ready : AllReady (s .picture .set) (newBlocks (worldOf s ring cells) (f .block) own)
-    unfolding eventsFor
     new-ready =
         let p = s .picture in
-        let cs = childrenOf p (f .block) in
-        let os = outcomesOf (worldOf s ring cells) (f .block) own in
+        let w = worldOf s ring cells in
+        let ok = block-sound s ring cells f b h in
         let r = front-known in
-        let ready = children-ready p (f .block) (block-sound s ring cells f b h) (read-kept (p .set) (s .front) (content ring (s .head) (s .used)) (f .block) (r .size) (r .decodes)) formats in
-        rw (sym (ap (λ (m : List (Event Block)). queuedBy (m ++ turnEvents (turned p (f .block) (openCount os)) cs os)) (planned-marks (turned p (f .block) (openCount os)) cs os))
-        ∙ queued-behind-marks (plannedAll (turned p (f .block) (openCount os)) cs os) (turnEvents (turned p (f .block) (openCount os)) cs os))
-        (queued-ready p (f .block) (p .set) (openCount os) cs os ready)
+        let k = read-kept (p .set) (s .front) (content ring (s .head) (s .used)) (f .block) (r .size) (r .decodes) in
+        each-also (λ c. (sound p c ≡ true) × CanQueue (p .set) c) (CanQueue (p .set)) (λ c q. q .1) (newBlocks w (f .block) own)
+        (queued-sound p (f .block) ok (outcomesOf w (f .block) own) (block-fine p (f .block) ok k formats))
 
     module _ (plan : Plan) (is-plan : plan ≡ planOf (s .picture) (f .block) own (meanings cells)) where
       facts : PlanFacts (worldOf s ring cells) (f .block) own plan

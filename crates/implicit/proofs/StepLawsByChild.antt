@@ -1,21 +1,20 @@
 -- What a step writes and measures child by child is what the step's definition says of all children together. Assumes nothing.
-use mathlib.Core.Path.{_≡_, refl, sym, ap, ap₂, _∙_}
-use mathlib.Core.Bool.{Bool, true, false, cond, _&&_}
-use mathlib.Core.List.{List, [], _∷_, _++_, append-nil}
-use Prim.Native.Nat.{ℕ, zero, suc, _+_, _-_, _^_, _≤_, _<_}
+use mathlib.Core.Path.{_≡_, refl, ap, _∙_}
+use mathlib.Core.Bool.{true}
+use mathlib.Core.List.{List, [], _∷_, _++_}
+use Prim.Native.Nat.{ℕ, zero, suc, _+_, _^_, _≤_, _<_}
 use native.Mathlib.Omega.{arith}
 use native.Mathlib.Nat.{add-zero}
-use native.Mathlib.Numerals.{add-one}
 use lib.Dec.{leb, ltb}
 use lib.ListN.{length, replicate, length-append}
-use borrow.Author.Tests.{leb-true, le-leb, lt-ltb}
-use Rattle.base.proofs.Test.{cases, and-both, cond-yes}
+use borrow.Author.Tests.{le-leb, lt-ltb}
+use Rattle.base.proofs.Test.{and-both}
 use Rattle.base.specs.Event.{Event, marks, queues, givesUp, queuedBy}
 use Rattle.image.specs.declared.Op.{Op}
 use Rattle.image.specs.declared.Op.the-variants as O
 use Rattle.image.specs.Cell as Cells
 use Rattle.image.specs.Range.{rectangleOf, pictureReady}
-use Rattle.image.specs.Painting.{paintable, paintedCells}
+use Rattle.image.specs.Painting.{paintable}
 use Rattle.image.proofs.CellLaws.{codes-meanings}
 use Rattle.image.proofs.PaintLaws.{painted-meanings, painted-cells-length}
 use Rattle.image.proofs.BlockLaws.{rectangle-ready}
@@ -23,30 +22,27 @@ use Rattle.queue.specs.declared.Block.{Block}
 use Rattle.queue.specs.declared.Last.{Last}
 use Rattle.queue.specs.declared.Measured.{Measured}
 use Rattle.queue.specs.declared.Measured.the-variants as M
-use Rattle.queue.specs.declared.Appended.{Appended}
 use Rattle.queue.specs.declared.Appended.the-variants as A
 use Rattle.queue.specs.Ring.{fitsRing, storedBehind, stored, wrapped}
-use Rattle.queue.specs.Block.{settled, remembered}
-use Rattle.queue.specs.Code.{encode, canQueue, indicesKnown}
+use Rattle.queue.specs.Block.{remembered}
+use Rattle.queue.specs.Code.{encode, indicesKnown}
 use Rattle.queue.specs.Queue as Queue
-use Rattle.queue.specs.Queue.{codable, codeOfKept, measured, appended, appendedRing, changedBy}
+use Rattle.queue.specs.Queue.{measured, appended, appendedRing}
 use Rattle.queue.proofs.RingLaws.{store-append, length-stored}
 use Rattle.decide.specs.declared.Picture.{Picture}
-use Rattle.decide.specs.declared.plan.Fate.{Fate}
-use Rattle.decide.specs.declared.plan.Fate.the-variants as F
-use Rattle.decide.specs.declared.plan.Planned.{Planned}
+use Rattle.plan.specs.declared.Fate.{Fate}
+use Rattle.plan.specs.declared.Fate.the-variants as F
+use Rattle.plan.specs.declared.Planned.{Planned}
 use Rattle.decide.specs.declared.turn.Turned.{Turned}
 use Rattle.decide.specs.declared.turn.Turned.the-variants as T
 use Rattle.decide.specs.declared.verdict.Outcome.{Outcome}
 use Rattle.decide.specs.declared.verdict.Outcome.the-variants as Out
-use Rattle.decide.specs.Verdict.{isMarking, isOpen}
-use Rattle.decide.specs.Plan.{paintedUnder, markEvents, turnEvent, turnEvents, cellsAfter, untouched, plannedTurn, plannedBy, plannedAll, plannedList}
-use Rattle.implicit.specs.declared.state.State.{State}
+use Rattle.plan.specs.Plan.{paintedUnder, markEvents, turnEvent, turnEvents, cellsAfter, untouched, plannedTurn, plannedAll}
 use Rattle.implicit.specs.declared.advance.Front.{Front}
 use Rattle.implicit.specs.declared.advance.Size.{Size}
 use Rattle.implicit.specs.Record.{pixelCount, putLast}
 use Rattle.implicit.specs.Step.{World, worldOf}
-use Rattle.implicit.specs.ByChild.{withCode, sizedBy, sizedAll, paintedBlock, markedBy, markedAll, takenState, numbered, queuedAs, withQueued, carriedBy, carriedAll, committed}
+use Rattle.implicit.specs.ByChild.{withCode, sizedBy, sizedAll, paintedBlock, markedBy, markedAll, takenState, numbered, withQueued, carriedBy, carriedAll, committed}
 use Rattle.implicit.proofs.StepLawsKept.{Ready, AllReady, ready-can, ready-settled, ready-known}
 
 -- THE EVENTS OF A PLAN

@@ -1,11 +1,11 @@
 -- What the code answers is what the definitions say, by the tests that it makes. Assumes nothing.
 use mathlib.Core.Path.{_≡_, refl, sym, ap, _∙_}
-use mathlib.Core.Bool.{Bool, true, false, not, cond, _&&_}
+use mathlib.Core.Bool.{Bool, true, false, not, _&&_}
 use mathlib.Core.List.{List, [], _∷_}
-use Prim.Native.Nat.{ℕ, suc, _+_, _-_, _^_, _≤_, _<_}
+use Prim.Native.Nat.{ℕ, _+_, _-_, _*_, _^_, _≤_, _<_}
 use native.Mathlib.Omega.{arith}
 use native.Mathlib.Numerals.{add-one}
-use lib.Dec.{leb, ltb, eqb}
+use lib.Dec.{leb, ltb}
 use lib.ListN.{length, getD, drop, drop-of-length-le}
 use lib.Seq.{drop-cons}
 use borrow.Author.Tests.{le-leb, lt-leb, lt-ltb, le-ltb}
@@ -15,7 +15,6 @@ use Rattle.image.specs.declared.Op.the-variants as O
 use Rattle.image.specs.declared.Seen.{Seen}
 use Rattle.image.specs.declared.Seen.the-variants as S
 use Rattle.image.specs.Cell.{meanings, ofKind}
-use Rattle.image.specs.Range.{rectangleOf}
 use Rattle.image.specs.Painting.{seenIf, someSeen}
 use Rattle.image.proofs.BlockLaws.{rectangle-ready}
 use Rattle.queue.specs.declared.Block.{Block}
@@ -25,41 +24,51 @@ use Rattle.queue.specs.declared.Measured.{Measured}
 use Rattle.queue.specs.declared.Measured.the-variants as M
 use Rattle.queue.specs.declared.Appended.{Appended}
 use Rattle.queue.specs.declared.Appended.the-variants as A
-use Rattle.queue.specs.Code.{encode, canQueue, indicesKnown}
+use Rattle.queue.specs.Code.{encode}
 use Rattle.queue.specs.Queue.{codable, measured, appended, appendedRing}
 use Rattle.queue.proofs.QueueAnswers.{denied, granted, codable-both}
 use Rattle.queue.proofs.QueueableLaws.{encode-few}
 use Rattle.queue.specs.Block.{settled}
 use Rattle.decide.specs.declared.Picture.{Picture}
 use Rattle.decide.specs.declared.children.Children.{Children}
-use Rattle.decide.specs.declared.plan.Plan.{Plan}
-use Rattle.decide.specs.declared.plan.Planned.{Planned}
-use Rattle.decide.specs.Damage.{undamaged, cellDamaged, damageSeen}
+use Rattle.plan.specs.declared.Fate.{Fate}
+use Rattle.plan.specs.declared.Fate.the-variants as F
+use Rattle.plan.specs.declared.Plan.{Plan}
+use Rattle.plan.specs.declared.Planned.{Planned}
+use Rattle.decide.specs.Damage.{legalPicture, undamaged, cellDamaged, damageSeen}
 use Rattle.decide.specs.Children.{childrenOf, listed}
+use Rattle.plan.proofs.ChildLaws.{some-child}
 use Rattle.implicit.specs.declared.state.State.{State}
 use Rattle.implicit.specs.declared.state.Drawn.the-variants as D
 use Rattle.implicit.specs.declared.state.Listed.{Listed}
-use Rattle.implicit.specs.declared.advance.Check.{Check}
 use Rattle.implicit.specs.declared.advance.Check.the-variants as C
 use Rattle.implicit.specs.declared.advance.Front.{Front}
-use Rattle.implicit.specs.declared.advance.Opened.{Opened}
 use Rattle.implicit.specs.declared.advance.Opened.the-variants as P
 use Rattle.implicit.specs.declared.advance.Size.{Size}
+use Rattle.implicit.specs.declared.commit.Carried.{Carried}
+use Rattle.implicit.specs.declared.commit.Carried.the-variants as K
 use Rattle.implicit.specs.Record.{pixelCount, soundRecord, putLast}
 use Rattle.implicit.specs.Listing.{frontOf, unlisted, listedBlock, listedFrom, childrenListed}
 use Rattle.implicit.specs.Step.{World, worldOf, blockFine, enoughVerdicts}
-use Rattle.implicit.specs.ByChild.{openedAs, opening, blockCheck, withCode, sizedBy, sizedAll, sizeOf, planCheck, paintedBlock, markedBy, markedAll, numbered, queuedAs, withQueued, carriedBy, carriedAll, takenState, committed}
+use Rattle.implicit.specs.ByChild.{openedAs, opening, blockCheck, withCode, sizedBy, sizedAll, sizeOf, planCheck, paintedBlock, markedBy, markedAll, numbered, withCarried, queuedAs, withQueued, carriedBy, carriedAll, takenState, committed}
 
 -- THE LISTING
 
-pub listed-yes : (p : Picture) (b : Block) (k : Children) (t : Bool) → t ≡ undamaged p b → t ≡ true → k ≡ listed b (childrenOf p b)
-    → record { answer = D.Done; children = k } ≡ listedBlock p b
-unfolding listedBlock
-listed-yes p b k t e f g = let u : undamaged p b ≡ true = sym e ∙ f in rw (u, g)
+-- of a legal picture, a block that is not damaged has a child, and a damaged one has none
+child-undamaged : (p : Picture) (b : Block) (n : ℕ) → legalPicture p ≡ true → n ≡ length (childrenOf p b) → ltb 0 n ≡ undamaged p b
+child-undamaged p b n h e = ap (λ (k : ℕ). ltb 0 k) e ∙ some-child p b ∙ rw h
 
-pub listed-no : (p : Picture) (b : Block) (r : Listed) (t : Bool) → t ≡ undamaged p b → t ≡ false → r ≡ unlisted R.Damaged → r ≡ listedBlock p b
-unfolding listedBlock
-listed-no p b r t e f g = let u : undamaged p b ≡ false = sym e ∙ f in rw (u, g)
+module _ (p : Picture) (b : Block) (k : Children) (h : legalPicture p ≡ true) (e : k ≡ listed b (childrenOf p b)) where
+  by-count : ltb 0 (k .count) ≡ undamaged p b
+  by-count = child-undamaged p b (k .count) h (ap (λ (c : Children). c .count) e)
+
+  pub listed-yes : 0 < k .count → record { answer = D.Done; children = k } ≡ listedBlock p b
+  unfolding listedBlock
+  listed-yes f = let u : undamaged p b ≡ true = sym by-count ∙ lt-ltb 0 (k .count) f in rw (u, e)
+
+  pub listed-no : (r : Listed) → k .count ≤ 0 → r ≡ unlisted R.Damaged → r ≡ listedBlock p b
+  unfolding listedBlock
+  listed-no r f g = let u : undamaged p b ≡ false = sym by-count ∙ le-ltb 0 (k .count) f in rw (u, g)
 
 module _ (s : State) (ring : List ℕ) (t : Bool) (is-t : t ≡ soundRecord (length ring) s) (r : Listed) where
   pub list-damaged : not t ≡ true → r ≡ unlisted R.Damaged → r ≡ childrenListed s ring
@@ -76,32 +85,22 @@ module _ (s : State) (ring : List ℕ) (t : Bool) (is-t : t ≡ soundRecord (len
 
 -- THE FRONT BLOCK
 
-module _ (s : State) (ring : List ℕ) (cells : ℕ) (t : Bool) (is-t : t ≡ soundRecord (length ring) s) where
-  pub open-damaged : not t ≡ true → P.Refused R.Damaged ≡ opening s ring cells
+module _ (s : State) (ring : List ℕ) (cells n : ℕ) (is-n : n ≡ pixelCount (s .picture)) where
+  pub open-few : cells < n → P.Refused R.Cells ≡ opening s ring cells
   unfolding opening
-  open-damaged h = let u : soundRecord (length ring) s ≡ false = sym is-t ∙ denied t h in rw u
+  open-few k = let l : cells < pixelCount (s .picture) = rw is-n at k in rw (lt-leb (pixelCount (s .picture)) cells l)
 
-  module _ (h : not t ≡ false) (n : ℕ) (is-n : n ≡ pixelCount (s .picture)) where
-    pub open-few : cells < n → P.Refused R.Cells ≡ opening s ring cells
-    unfolding opening
-    open-few k =
-        let u : soundRecord (length ring) s ≡ true = sym is-t ∙ granted t h in
-        let l : cells < pixelCount (s .picture) = rw is-n at k in
-        rw (u, lt-leb (pixelCount (s .picture)) cells l)
+  module _ (k : n ≤ cells) where
+    enough : leb (pixelCount (s .picture)) cells ≡ true
+    enough = let l : pixelCount (s .picture) ≤ cells = rw is-n at k in le-leb (pixelCount (s .picture)) cells l
 
-    pub open-empty : n ≤ cells → s .queued ≤ s .taken → P.Refused R.Empty ≡ opening s ring cells
+    pub open-empty : s .queued ≤ s .taken → P.Refused R.Empty ≡ opening s ring cells
     unfolding opening
-    open-empty k q =
-        let u : soundRecord (length ring) s ≡ true = sym is-t ∙ granted t h in
-        let l : pixelCount (s .picture) ≤ cells = rw is-n at k in
-        rw (u, le-leb (pixelCount (s .picture)) cells l, le-ltb (s .taken) (s .queued) q)
+    open-empty q = rw (enough, le-ltb (s .taken) (s .queued) q)
 
-    pub open-at : n ≤ cells → s .taken < s .queued → (k v : Taken) → k ≡ frontOf s ring → k ≡ v → openedAs v ≡ opening s ring cells
+    pub open-at : s .taken < s .queued → (k v : Taken) → k ≡ frontOf s ring → k ≡ v → openedAs v ≡ opening s ring cells
     unfolding opening
-    open-at j q k v e f =
-        let u : soundRecord (length ring) s ≡ true = sym is-t ∙ granted t h in
-        let l : pixelCount (s .picture) ≤ cells = rw is-n at j in
-        rw (u, le-leb (pixelCount (s .picture)) cells l, lt-ltb (s .taken) (s .queued) q) (ap openedAs (sym f ∙ e))
+    open-at q k v e f = rw (enough, lt-ltb (s .taken) (s .queued) q) (ap openedAs (sym f ∙ e))
 
 -- THE BLOCK
 
@@ -127,10 +126,10 @@ module _ (p : Picture) (b : Block) (cells : List ℕ) (h : leb (pixelCount p) (l
       cases (cellDamaged p b (meanings cells)) (λ d. rw d (sym (and-false (undamaged p b))))
       (λ d. (let j : S.Yes ≡ seenIf false = sym k ∙ told ∙ ap seenIf d in let z : _≡_ {A = ℕ} 0 1 = cc in absurd (omega arith)))
 
-  pub fine-as : v ≡ S.No → (u : Bool) → u ≡ undamaged p b → u ≡ blockFine p cells b
-  fine-as k u f =
+  pub fine-as : v ≡ S.No → (n : ℕ) → legalPicture p ≡ true → n ≡ length (childrenOf p b) → ltb 0 n ≡ blockFine p cells b
+  fine-as k n l f =
       cases (cellDamaged p b (meanings cells)) (λ d. (let j : S.No ≡ seenIf true = sym k ∙ told ∙ ap seenIf d in let z : _≡_ {A = ℕ} 0 1 = cc in absurd (omega arith)))
-      (λ d. rw d (f ∙ sym (and-true (undamaged p b))))
+      (λ d. rw d (child-undamaged p b n l f ∙ sym (and-true (undamaged p b))))
 
   pub fine-never : {X : Type 0} → v ≡ S.Outside → X
   fine-never k =
@@ -166,6 +165,22 @@ measured-few set back b m count last e f =
     omega (arith, encode-few set back (settled set b) (c .0) (c .1))))
     (λ k. (let g : M.NotCodable ≡ M.Bytes count last = rw k at (sym e ∙ f) in let z : _≡_ {A = ℕ} 0 1 = cc in absurd (omega arith)))
 
+-- each child that is queued takes at most 83 bytes
+sized-few : (set : ℕ) (z : Size) (es : List Planned) → sizedAll set z es .total ≤ z .total + 83 * length es
+unfolding sizedAll
+sized-few set z [] = omega arith
+sized-few set z (e ∷ es) = let r = sized-few set (sizedBy set z (e .block) (e .fate)) es in omega (arith, r, by-fate (e .fate))
+  where
+    code : (m : Measured) → m ≡ measured set (z .last) (e .block) → withCode z m .total ≤ z .total + 83
+    code (M.Bytes count last) h = omega (arith, measured-few set (z .last) (e .block) (M.Bytes count last) count last h refl)
+    code M.NotCodable h = omega arith
+
+    by-fate : (f : Fate) → sizedBy set z (e .block) f .total ≤ z .total + 83
+    by-fate F.Nothing = omega arith
+    by-fate F.Mark = omega arith
+    by-fate F.Queue = code (measured set (z .last) (e .block)) refl
+    by-fate F.GiveUp = omega arith
+
 module _ (s : State) (len used : ℕ) (p : Plan) where
   pub plan-illegal : not (p .legal) ≡ true → C.Refused R.Verdict ≡ planCheck s len used p
   unfolding planCheck
@@ -176,20 +191,24 @@ module _ (s : State) (len used : ℕ) (p : Plan) where
     unfolding planCheck
     plan-many k = rw (granted (p .legal) h, lt-leb (s .queued + p .queued) (2 ^ 32) k)
 
-    module _ (k : s .queued + p .queued ≤ 4294967296) (size : ℕ) (is-size : size ≡ sizeOf (s .picture .set) (putLast (s .back)) (p .at)) (fits : used ≤ len) where
-      pub plan-full : len - used < size → C.Refused R.Room ≡ planCheck s len used p
-      unfolding planCheck
-      plan-full l =
-          let n = sizeOf (s .picture .set) (putLast (s .back)) (p .at) in
-          let m : len < used + n = omega arith in
-          rw (granted (p .legal) h, le-leb (s .queued + p .queued) (2 ^ 32) k, lt-leb (used + n) len m)
+    module _ (k : s .queued + p .queued ≤ 4294967296) (fits : used ≤ len) where
+      abbrev size : ℕ
+      size = sizeOf (s .picture .set) (putLast (s .back)) (p .at)
 
-      pub plan-passed : size ≤ len - used → C.Passed ≡ planCheck s len used p
+      has-room : used + size ≤ len → C.Passed ≡ planCheck s len used p
       unfolding planCheck
-      plan-passed l =
-          let n = sizeOf (s .picture .set) (putLast (s .back)) (p .at) in
-          let m : used + n ≤ len = omega arith in
-          rw (granted (p .legal) h, le-leb (s .queued + p .queued) (2 ^ 32) k, le-leb (used + n) len m)
+      has-room m = rw (granted (p .legal) h, le-leb (s .queued + p .queued) (2 ^ 32) k, le-leb (used + size) len m)
+
+      pub plan-roomy : length (p .at) ≡ 4 → 332 ≤ len - used → C.Passed ≡ planCheck s len used p
+      plan-roomy n l = has-room (omega (arith, sized-few (s .picture .set) (record { total = 0; last = putLast (s .back) }) (p .at)))
+
+      module _ (n : ℕ) (is-n : n ≡ size) where
+        pub plan-full : len - used < n → C.Refused R.Room ≡ planCheck s len used p
+        unfolding planCheck
+        plan-full l = let m : len < used + size = omega arith in rw (granted (p .legal) h, le-leb (s .queued + p .queued) (2 ^ 32) k, lt-leb (used + size) len m)
+
+        pub plan-passed : n ≤ len - used → C.Passed ≡ planCheck s len used p
+        plan-passed l = has-room (omega arith)
 
 -- CHILD BY CHILD: what is left to do from here is what was to do
 
@@ -231,9 +250,17 @@ module _ (from : ℕ) (b : Block) (s : State) (ring cells ring′ : List ℕ) (a
   unfolding withQueued
   queued-by v e = rw (is-ring, sym e ∙ is-a)
 
-  pub queued-done : (last : Last) (used : ℕ) (r : State) (cells′ : List ℕ) → a ≡ A.Done last used → r ≡ numbered s last used
-      → cells′ ≡ paintedBlock (s .picture) b (O.Name from (s .queued)) cells → worldOf r ring′ cells′ ≡ withQueued from b (worldOf s ring cells)
-  queued-done last used r cells′ e f g = rw (f, g) (queued-by (A.Done last used) e)
+  pub queued-done : (last : Last) (used : ℕ) (cells′ : List ℕ) → a ≡ A.Done last used → cells′ ≡ paintedBlock (s .picture) b (O.Name from (s .queued)) cells
+      → worldOf (numbered s last used) ring′ cells′ ≡ withQueued from b (worldOf s ring cells)
+  queued-done last used cells′ e g = rw g (queued-by (A.Done last used) e)
+
+-- the record that a child leaves, by what is said of it
+pub carried-state : (s n : State) (k v : Carried) → k ≡ v → n ≡ withCarried s v → n ≡ withCarried s k
+carried-state s n k v e f = f ∙ ap (withCarried s) (sym e)
+
+pub carried-more : (s n : State) (k : Carried) → n ≡ withCarried s k → n .queued ≤ s .queued + 1
+carried-more s n (K.Queued last used) e = rw e (omega arith)
+carried-more s n K.Nothing e = rw e (omega arith)
 
 -- the marks, the record with the front block taken, and the rest
 pub committed-by : (s : State) (ring cells : List ℕ) (f : Front) (es : List Planned) (marked : List ℕ) (t r : State) (ring′ cells′ : List ℕ) → marked ≡ markedAll (s .picture) cells es → t ≡ takenState s f

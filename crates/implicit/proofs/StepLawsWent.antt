@@ -5,7 +5,7 @@ use mathlib.Core.Bool.{Bool, true, false}
 use mathlib.Core.List.{List, [], _∷_}
 use Prim.Native.Nat.{ℕ, suc, _+_, _^_, _≤_}
 use native.Mathlib.Omega.{arith}
-use lib.Dec.{leb, ltb, eqb}
+use lib.Dec.{leb, ltb}
 use lib.ListN as L
 use lib.ListN.{length, take}
 use borrow.Author.Tests.{leb-true, eqb-true, le-leb}
@@ -13,7 +13,7 @@ use Rattle.base.proofs.Test.{cond-yes}
 use Rattle.base.specs.Event.{Event, marks, queues, givesUp}
 use Rattle.refusal.specs.declared.Refusal.{Refusal}
 use Rattle.refusal.specs.declared.Refusal.the-variants as R
-use Rattle.image.specs.Cell.{Cell, meanings, meaningOf, codes, cellCode}
+use Rattle.image.specs.Cell.{Cell, meanings, meaningOf, cellCode}
 use Rattle.image.specs.declared.Op.the-variants as O
 use Rattle.image.specs.Range.{rectangleOf}
 use Rattle.image.proofs.PaintLaws.{painted-length}
@@ -26,13 +26,12 @@ use Rattle.queue.proofs.RingLaws.{length-stored}
 use Rattle.decide.specs.declared.Picture.{Picture}
 use Rattle.decide.specs.Children.{childrenOf}
 use Rattle.decide.specs.Verdict.{allLegal}
-use Rattle.decide.specs.Plan.{evaluations, cellsAfter, paintedUnder}
+use Rattle.plan.specs.Plan.{evaluations, cellsAfter, paintedUnder}
 use Rattle.decide.proofs.ListingLaws.{children-few}
-use Rattle.decide.proofs.EventLaws.{evaluations-few}
-use Rattle.implicit.specs.declared.state.State.{State}
+use Rattle.plan.proofs.EventLaws.{evaluations-few}
 use Rattle.implicit.specs.Record.{pixelCount, soundRecord}
 use Rattle.implicit.specs.Listing.{frontOf}
-use Rattle.implicit.specs.Step.{World, StepEnd, refused, finished, unless, enoughVerdicts, outcomesOf, eventsOf, newBlocks, newBytes, worldLeft, blockFine, judged, opened, stepWith}
+use Rattle.implicit.specs.Step.{World, StepEnd, finished, unless, enoughVerdicts, outcomesOf, eventsOf, newBlocks, newBytes, worldLeft, blockFine, judged, opened, stepWith}
 
 -- all that a finished step has been through: the block that it took, the checks that it passed, the world that it leaves
 pub record Went (tape : Bool) (w : World) (vs : List ℕ) (left : World) (evals bytes : ℕ) : Type 0 where

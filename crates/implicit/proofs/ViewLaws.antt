@@ -1,31 +1,29 @@
 -- Laws of the picture and the counts: the pixels' cells, the answers by the tests that lead there, byte by byte, and the sums. Assumes nothing.
 use mathlib.Core.Path.{_≡_, refl, sym, ap, _∙_}
 use mathlib.Core.Bool.{Bool, true, false, not, cond}
-use mathlib.Core.List.{List, [], _∷_, _++_, map, map-append}
+use mathlib.Core.List.{List, [], _∷_, _++_, map, map-map}
 use Prim.Native.Nat.{ℕ, zero, suc, _+_, _-_, _*_, _^_, _≤_, _<_}
 use native.Mathlib.Nat.{div-mul-le-self, lt-div-mul-add, div-lt-iff-lt-mul}
-use native.Mathlib.Numerals.{add-one}
 use native.Mathlib.Omega.{arith}
 use lib.Dec.{leb}
-use lib.ListN.{length, getD, take, drop, set, length-append, length-drop}
+use lib.ListN.{length, getD, take, drop, length-append, length-drop}
 use lib.ListN as L
-use lib.Seq.{take-suc, drop-cons, append-snoc, set-at, length-take-le, take-at, drop-at}
+use lib.Seq.{length-take-le, take-at, drop-at}
 use borrow.Author.Tests.{le-leb, lt-leb, leb-true}
 use Rattle.refusal.specs.declared.Refusal.{Refusal}
 use Rattle.refusal.specs.declared.Refusal.the-variants as R
 use Rattle.image.specs.declared.Kind.the-variants as K
 use Rattle.image.specs.declared.Reading.{Reading}
 use Rattle.image.specs.declared.Reading.the-variants as G
-use Rattle.image.specs.declared.Seen.{Seen}
-use Rattle.image.specs.declared.Seen.the-variants as S
 use Rattle.image.specs.declared.Tally.{Tally}
 use Rattle.image.specs.declared.TallyAnswer.{TallyAnswer}
 use Rattle.image.specs.declared.TallyAnswer.the-variants as A
-use Rattle.image.specs.Cell.{Cell, Named, Marked, GivenUp, Other, meaningOf, meanings, reading, byteOf, isDamaged, isGivenUp, ofKind, countOf, isTrue, isFalse, isUncertain, tallied}
+use Rattle.image.specs.Cell.{Cell, Named, Marked, GivenUp, Other, meaningOf, meanings, reading, byteOf, shownByte, isDamaged, isGivenUp, ofKind, countOf, isTrue, isFalse, isUncertain, tallied}
 use Rattle.image.specs.Range.{cellIndex, wholePicture}
-use Rattle.image.specs.Painting.{pixelCell, someOf, seenIf, someSeen, tallyAnswer}
+use Rattle.image.specs.Painting.{pixelCell, someOf, tallyAnswer, drawnBytes}
 use Rattle.image.proofs.RangeLaws.{cell-below}
 use Rattle.image.proofs.CountLaws.{tally-answered}
+use Rattle.image.proofs.DrawLaws.{drawn-all}
 use Rattle.decide.specs.declared.Picture.{Picture}
 use Rattle.implicit.specs.declared.state.State.{State}
 use Rattle.implicit.specs.declared.state.Counts.{Counts}
@@ -35,7 +33,7 @@ use Rattle.implicit.specs.declared.state.Drawn.{Drawn}
 use Rattle.implicit.specs.declared.state.Drawn.the-variants as D
 use Rattle.implicit.specs.Record.{pixelCount, pixelCells, soundRecord}
 use Rattle.implicit.specs.View.{cellsFine, pictureBytes, pictureLeft, shareOf, pictureAnswer, countsFrom, countsOf, countsAnswer}
-use Rattle.implicit.proofs.RecordLaws.{sound-picture, pixels-some, pixels-most, pixel-cells, pixel-cells-length, pixel-cell-at, whole-ready, whole-seen}
+use Rattle.implicit.proofs.RecordLaws.{sound-picture, pixels-some, pixels-most, pixel-cells, pixel-cells-length, pixel-cell-at, whole-ready}
 
 -- DAMAGED CELLS
 
@@ -44,24 +42,17 @@ unfolding ofKind someOf
 damaged-some [] = refl
 damaged-some (c ∷ l) = rw (damaged-some l)
 
--- what was seen, as yes or no
-abbrev pub seenFine : Seen → Bool
-seenFine S.Yes = false
-seenFine S.No = true
-seenFine S.Outside = false
+take-meanings : (k : ℕ) (l : List ℕ) → meanings (take k l) ≡ take k (meanings l)
+take-meanings zero [] = refl
+take-meanings zero (n ∷ l) = refl
+take-meanings (suc k) [] = refl
+take-meanings (suc k) (n ∷ l) = ap (λ (r : List Cell). meaningOf n ∷ r) (take-meanings k l)
 
-pub fine-as : (s : State) (cells : List ℕ) (v w : Seen) → pixelCount (s .picture) ≤ length cells
-    → v ≡ someSeen (s .picture .width) (s .picture .height) (wholePicture (s .picture .width) (s .picture .height)) K.Damaged cells → v ≡ w
-    → seenFine w ≡ cellsFine s cells
-fine-as s cells v w h e f =
-    let p = s .picture in
-    let b = someOf (ofKind K.Damaged) (pixelCells p cells) in
-    ap seenFine (sym f ∙ e ∙ whole-seen p cells K.Damaged h)
-    ∙ go b ∙ ap not (damaged-some (pixelCells p cells))
-  where
-    go : (b : Bool) → seenFine (seenIf b) ≡ not b
-    go true = refl
-    go false = refl
+-- no pixel's cell is damaged exactly if none of the first cells is
+pub fine-as : (s : State) (cells : List ℕ) (n : ℕ) (b : Bool) → n ≡ pixelCount (s .picture) → b ≡ someOf (ofKind K.Damaged) (meanings (take n cells))
+    → not b ≡ cellsFine s cells
+fine-as s cells n b e f =
+    ap not (f ∙ damaged-some (meanings (take n cells)) ∙ ap (someOf isDamaged) (take-meanings n cells ∙ ap (λ (k : ℕ). take k (meanings cells)) e ∙ sym (pixel-cells (s .picture) cells)))
 
 -- THE ANSWERS, BY THE TESTS THAT LEAD THERE
 
@@ -143,51 +134,19 @@ counts-refused s cells room why e d = sym (counts-as-picture s cells room e) ∙
 
 -- BYTE BY BYTE
 
--- the byte of a cell's code
-abbrev pub shownByte : ℕ → ℕ → ℕ
-shownByte taken n = byteOf (reading taken (meaningOf n))
-
--- the buffer once the first i bytes are written
-unfoldable pub drawnTo : ℕ → ℕ → List ℕ → List ℕ → List ℕ
-drawnTo taken i cells out = map (shownByte taken) (take i cells) ++ drop i out
-
-pub draw-start : (taken : ℕ) (cells out : List ℕ) → out ≡ drawnTo taken 0 cells out
-unfolding drawnTo
-draw-start taken [] out = refl
-draw-start taken (n ∷ cells) out = refl
-
-pub draw-turn : (taken i v : ℕ) (cells out now : List ℕ) → i < length cells → i < length out → now ≡ drawnTo taken i cells out → v ≡ shownByte taken (getD cells i 0)
-    → set now i v ≡ drawnTo taken (i + 1) cells out
-unfolding drawnTo
-draw-turn taken i v cells out now h k e f =
-    let front = map (shownByte taken) (take i cells) in
-    let n : length front ≡ i = L.length-map (take i cells) (shownByte taken) ∙ length-take-le i cells (omega arith) in
-    ap (λ (l : List ℕ). set l i v) (e ∙ ap (λ (l : List ℕ). front ++ l) (drop-cons out i 0 k))
-    ∙ set-at front (getD out i 0) (drop (suc i) out) v i n
-    ∙ sym (append-snoc front v (drop (suc i) out))
-    ∙ ap (λ (l : List ℕ). l ++ drop (suc i) out)
-    (ap (λ (b : ℕ). front ++ (b ∷ [])) f ∙ sym (map-append (shownByte taken) (take i cells) (getD cells i 0 ∷ [])) ∙ sym (ap (map (shownByte taken)) (take-suc cells i 0 h)))
-    ∙ rw add-one
-
-map-map : (taken : ℕ) (l : List ℕ) → map (shownByte taken) l ≡ map (λ c. byteOf (reading taken c)) (meanings l)
-map-map taken [] = refl
-map-map taken (n ∷ l) = ap (λ (r : List ℕ). shownByte taken n ∷ r) (map-map taken l)
-
-take-meanings : (k : ℕ) (l : List ℕ) → meanings (take k l) ≡ take k (meanings l)
-take-meanings zero [] = refl
-take-meanings zero (n ∷ l) = refl
-take-meanings (suc k) [] = refl
-take-meanings (suc k) (n ∷ l) = ap (λ (r : List Cell). meaningOf n ∷ r) (take-meanings k l)
-
 bytes-shown : (s : State) (cells : List ℕ) → map (shownByte (s .taken)) (take (pixelCount (s .picture)) cells) ≡ pictureBytes s cells
 unfolding pictureBytes
 bytes-shown s cells =
-    map-map (s .taken) (take (pixelCount (s .picture)) cells)
+    sym (map-map (λ c. byteOf (reading (s .taken) c)) meaningOf (take (pixelCount (s .picture)) cells))
     ∙ ap (map (λ c. byteOf (reading (s .taken) c))) (take-meanings (pixelCount (s .picture)) cells ∙ sym (pixel-cells (s .picture) cells))
 
-pub draw-end : (s : State) (i : ℕ) (cells out : List ℕ) → i ≡ pixelCount (s .picture) → drawnTo (s .taken) i cells out ≡ pictureLeft s cells out
-unfolding drawnTo pictureLeft
-draw-end s i cells out e = rw e (ap (λ (l : List ℕ). l ++ drop (pixelCount (s .picture)) out) (bytes-shown s cells))
+-- the first bytes drawn, and the rest as it was
+pub left-drawn : (s : State) (n : ℕ) (cells out ys : List ℕ) → n ≡ pixelCount (s .picture) → n ≤ length cells → n ≤ length out
+    → ys ≡ drawnBytes (s .taken) (take n cells) (take n out) → ys ++ drop n out ≡ pictureLeft s cells out
+unfolding pictureLeft
+left-drawn s n cells out ys e h k f =
+    let y = f ∙ drawn-all (s .taken) (take n cells) (take n out) (length-take-le n cells h ∙ sym (length-take-le n out k)) in
+    ap (λ (l : List ℕ). l ++ drop n out) y ∙ rw e (ap (λ (l : List ℕ). l ++ drop (pixelCount (s .picture)) out) (bytes-shown s cells))
 
 -- a byte for each pixel
 pub picture-length : (s : State) (cells : List ℕ) → pixelCount (s .picture) ≤ length cells → length (pictureBytes s cells) ≡ pixelCount (s .picture)

@@ -1,12 +1,11 @@
 -- A step's checks and its writing, child by child: what the code computes. The laws say that this is the step. No child is left out, also where
 -- a block could not be queued: then nothing changes, and the laws say that this does not happen.
 use mathlib.Core.Path.{_≡_}
-use mathlib.Core.Bool.{Bool, true, false, cond}
+use mathlib.Core.Bool.{Bool, true}
 use mathlib.Core.List.{List, [], _∷_}
 use Prim.Native.Nat.{ℕ, _+_, _^_}
 use lib.Dec.{leb, ltb}
 use lib.ListN.{length}
-use Rattle.refusal.specs.declared.Refusal.{Refusal}
 use Rattle.refusal.specs.declared.Refusal.the-variants as R
 use Rattle.image.specs.declared.Op.{Op}
 use Rattle.image.specs.declared.Op.the-variants as O
@@ -22,11 +21,10 @@ use Rattle.queue.specs.declared.Appended.{Appended}
 use Rattle.queue.specs.declared.Appended.the-variants as A
 use Rattle.queue.specs.Queue.{measured, appended, appendedRing}
 use Rattle.decide.specs.declared.Picture.{Picture}
-use Rattle.decide.specs.declared.plan.Fate.{Fate}
-use Rattle.decide.specs.declared.plan.Fate.the-variants as F
-use Rattle.decide.specs.declared.plan.Plan.{Plan}
-use Rattle.decide.specs.declared.plan.Planned.{Planned}
-use Rattle.decide.specs.Children.{childrenOf}
+use Rattle.plan.specs.declared.Fate.{Fate}
+use Rattle.plan.specs.declared.Fate.the-variants as F
+use Rattle.plan.specs.declared.Plan.{Plan}
+use Rattle.plan.specs.declared.Planned.{Planned}
 use Rattle.implicit.specs.declared.state.State.{State}
 use Rattle.implicit.specs.declared.advance.Check.{Check}
 use Rattle.implicit.specs.declared.advance.Check.the-variants as C
@@ -34,7 +32,9 @@ use Rattle.implicit.specs.declared.advance.Front.{Front}
 use Rattle.implicit.specs.declared.advance.Opened.{Opened}
 use Rattle.implicit.specs.declared.advance.Opened.the-variants as P
 use Rattle.implicit.specs.declared.advance.Size.{Size}
-use Rattle.implicit.specs.Record.{pixelCount, soundRecord, putLast}
+use Rattle.implicit.specs.declared.commit.Carried.{Carried}
+use Rattle.implicit.specs.declared.commit.Carried.the-variants as K
+use Rattle.implicit.specs.Record.{refusedUnless, pixelCount, soundRecord, putLast}
 use Rattle.implicit.specs.Listing.{frontOf}
 use Rattle.implicit.specs.Step.{World, worldOf, blockFine, enoughVerdicts}
 
@@ -46,14 +46,11 @@ openedAs (T.Front b last head used) = P.At (record { block = b; last = last; hea
 openedAs T.Damaged = P.Refused R.Damaged
 openedAs T.Outside = P.Refused R.Damaged
 
--- refusals 8 of the record, 2 and 13, then the bytes of the block; there are so many cells
+-- refusals 2 and 13 of a sound record, then the bytes of the block; there are so many cells
 unfoldable pub opening : State → List ℕ → ℕ → Opened
 opening s ring cells =
-    cond (soundRecord (length ring) s)
-    (cond (leb (pixelCount (s .picture)) cells)
-    (cond (ltb (s .taken) (s .queued)) (openedAs (frontOf s ring)) (P.Refused R.Empty))
-    (P.Refused R.Cells))
-    (P.Refused R.Damaged)
+    refusedUnless (P.Refused R.Cells) (leb (pixelCount (s .picture)) cells)
+    (refusedUnless (P.Refused R.Empty) (ltb (s .taken) (s .queued)) (openedAs (frontOf s ring)))
 
 -- what is known of a step whose front block is read
 pub record Begun (s : State) (ring cells : List ℕ) (f : Front) : Type 0 where
@@ -65,9 +62,8 @@ pub record Begun (s : State) (ring cells : List ℕ) (f : Front) : Type 0 where
 -- refusals 8 of the block and 4
 unfoldable pub blockCheck : Picture → Block → List ℕ → ℕ → ℕ → Bool → Check
 blockCheck p b cells children verdicts tape =
-    cond (blockFine p cells b)
-    (cond (enoughVerdicts tape children verdicts) C.Passed (C.Refused R.Verdicts))
-    (C.Refused R.Damaged)
+    refusedUnless (C.Refused R.Damaged) (blockFine p cells b)
+    (refusedUnless (C.Refused R.Verdicts) (enoughVerdicts tape children verdicts) C.Passed)
 
 -- the bytes of the children so far, with what is remembered of the last of them, and those of one more
 abbrev pub withCode : Size → Measured → Size
@@ -90,11 +86,9 @@ sizeOf set back es = sizedAll set (record { total = 0; last = back }) es .total
 -- refusals 5, 7 and 6
 unfoldable pub planCheck : State → ℕ → ℕ → Plan → Check
 planCheck s len used p =
-    cond (p .legal)
-    (cond (leb (s .queued + p .queued) (2 ^ 32))
-    (cond (leb (used + sizeOf (s .picture .set) (putLast (s .back)) (p .at)) len) C.Passed (C.Refused R.Room))
-    (C.Refused R.Numbers))
-    (C.Refused R.Verdict)
+    refusedUnless (C.Refused R.Verdict) (p .legal)
+    (refusedUnless (C.Refused R.Numbers) (leb (s .queued + p .queued) (2 ^ 32))
+    (refusedUnless (C.Refused R.Room) (leb (used + sizeOf (s .picture .set) (putLast (s .back)) (p .at)) len) C.Passed))
 
 -- THE WRITING
 
@@ -138,6 +132,11 @@ numbered s last used = record {
   front = s .front;
   back = last;
 }
+
+-- the record once a child is carried out
+abbrev pub withCarried : State → Carried → State
+withCarried s (K.Queued last used) = numbered s last used
+withCarried s K.Nothing = s
 
 abbrev pub queuedAs : ℕ → Block → World → List ℕ → Appended → World
 queuedAs from b w ring (A.Done last used) = worldOf (numbered (w .state) last used) ring (paintedBlock (w .state .picture) b (O.Name from (w .state .queued)) (w .cells))

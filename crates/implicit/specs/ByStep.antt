@@ -1,21 +1,17 @@
 -- A run, step by step: what the code computes. The laws say that what is left to do, with what was counted, is the run.
 use mathlib.Core.Path.{_≡_}
-use mathlib.Core.Bool.{Bool, true, false, cond}
+use mathlib.Core.Bool.{true, false, cond}
 use mathlib.Core.List.{List}
-use Prim.Native.Nat.{ℕ, _+_, _-_, _*_, _≤_}
+use Prim.Native.Nat.{ℕ, _+_, _*_, _≤_}
 use lib.Dec.{leb}
 use lib.ListN.{length, drop}
 use Rattle.implicit.specs.declared.state.State.{State}
 use Rattle.implicit.specs.declared.state.Ending.{Ending}
 use Rattle.implicit.specs.declared.state.Ending.the-variants as E
 use Rattle.implicit.specs.declared.go.Progress.{Progress}
-use Rattle.implicit.specs.Record.{queueEmpty}
+use Rattle.implicit.specs.Record.{queueEmpty, soundUse, soundRecord}
 use Rattle.implicit.specs.Step.{World, worldOf, StepEnd, refused, finished, tapeStepOf, worldAfter}
-use Rattle.implicit.specs.Run.{RunEnd, endedAs, emptyEnding, runFrom}
-
--- before the first step
-abbrev pub startProgress : State → Progress
-startProgress s = record { state = s; steps = 0; evaluations = 0; tape = 0; ending = E.More; going = true }
+use Rattle.implicit.specs.Run.{RunEnd, emptyEnding}
 
 -- the run ends here
 abbrev pub halted : Progress → Ending → Progress
@@ -51,22 +47,9 @@ worldOnce budget p ring cells tape =
     let w = worldOf (p .state) ring cells in
     cond (queueEmpty (p .state)) w (cond (leb budget (p .steps)) w (worldAfter w (nextStep p ring cells tape)))
 
--- what is left to do, and all of the run, with what was counted so far
-abbrev pub restOf : ℕ → Progress → List ℕ → List ℕ → List ℕ → RunEnd
-restOf budget p ring cells tape =
-    cond (p .going) (runFrom (budget - p .steps) (worldOf (p .state) ring cells) (drop (p .tape) tape)) (endedAs (worldOf (p .state) ring cells) (p .ending))
-
-abbrev pub counted : Progress → RunEnd → RunEnd
-counted p e = record {
-  world = e .world;
-  steps = p .steps + e .steps;
-  evaluations = p .evaluations + e .evaluations;
-  tape = p .tape + e .tape;
-  ending = e .ending;
-}
-
-unfoldable pub wholeRun : ℕ → Progress → List ℕ → List ℕ → List ℕ → RunEnd
-wholeRun budget p ring cells tape = counted p (restOf budget p ring cells tape)
+-- what is known of the record between two steps: it is sound, if only its use is
+abbrev pub SoundByUse : ℕ → State → Type 0
+SoundByUse len s = soundUse s ≡ true → soundRecord len s ≡ true
 
 -- what was counted stays small, by the budget
 pub record Bounded (budget : ℕ) (tape : List ℕ) (p : Progress) : Type 0 where

@@ -8,3 +8,4 @@ pub mod ByChild
 pub mod Run
 pub mod ByStep
 pub mod View
+pub mod Answers

@@ -1,6 +1,5 @@
 -- The children of the front block, listed for the evaluator before it answers (added). It is refused as a step is, by 8 for the record, by 13, and by 8 for the block,
 -- the last without a look at cells, since none are lent.
-use mathlib.Core.Bool.{Bool, cond}
 use mathlib.Core.List.{List, []}
 use Prim.Native.Nat.{ℕ}
 use lib.Dec.{ltb}
@@ -18,7 +17,7 @@ use Rattle.decide.specs.Children.{childrenOf, listed}
 use Rattle.implicit.specs.declared.state.State.{State}
 use Rattle.implicit.specs.declared.state.Drawn.the-variants as D
 use Rattle.implicit.specs.declared.state.Listed.{Listed}
-use Rattle.implicit.specs.Record.{soundRecord}
+use Rattle.implicit.specs.Record.{refusedUnless, soundRecord}
 
 -- the front block, read from the bytes used and nothing else
 abbrev pub frontOf : State → List ℕ → Taken
@@ -42,7 +41,7 @@ unlisted why = record { answer = D.Refused why; children = listed blankBlock [] 
 
 -- the children of a block, unless it is damaged
 unfoldable pub listedBlock : Picture → Block → Listed
-listedBlock p b = cond (undamaged p b) (record { answer = D.Done; children = listed b (childrenOf p b) }) (unlisted R.Damaged)
+listedBlock p b = refusedUnless (unlisted R.Damaged) (undamaged p b) (record { answer = D.Done; children = listed b (childrenOf p b) })
 
 -- the children of the block that was read
 abbrev pub listedFrom : State → Taken → Listed
@@ -53,6 +52,5 @@ listedFrom s (T.Front b last head used) = listedBlock (s .picture) b
 -- THE LISTING
 unfoldable pub childrenListed : State → List ℕ → Listed
 childrenListed s ring =
-    cond (soundRecord (length ring) s)
-    (cond (ltb (s .taken) (s .queued)) (listedFrom s (frontOf s ring)) (unlisted R.Empty))
-    (unlisted R.Damaged)
+    refusedUnless (unlisted R.Damaged) (soundRecord (length ring) s)
+    (refusedUnless (unlisted R.Empty) (ltb (s .taken) (s .queued)) (listedFrom s (frontOf s ring)))

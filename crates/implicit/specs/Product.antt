@@ -1,6 +1,6 @@
 -- The first blocks one by one, for code that has no list of them: how many there are, which is the i-th, and what is remembered and used once one is queued.
 -- The pieces of t change fastest, then those of n_theta, then n, then m.
-use mathlib.Core.Bool.{Bool, cond}
+use mathlib.Core.Bool.{cond}
 use Prim.Native.Nat.{ℕ, _+_, _*_, _/_, _%_}
 use lib.ListN.{length, getD}
 use Rattle.interval.specs.declared.Interval.{Interval}

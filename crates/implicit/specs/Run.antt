@@ -1,6 +1,6 @@
 -- Document 01, the paragraph on a run: what it is refused by, its four endings in the order in which they are looked for, and its three sums.
 use mathlib.Core.Path.{_≡_}
-use mathlib.Core.Bool.{Bool, cond}
+use mathlib.Core.Bool.{cond}
 use mathlib.Core.List.{List}
 use Prim.Native.Nat.{ℕ, zero, suc, _+_}
 use lib.Dec.{leb}
@@ -15,7 +15,7 @@ use Rattle.implicit.specs.declared.state.Ending.{Ending}
 use Rattle.implicit.specs.declared.state.Ending.the-variants as E
 use Rattle.implicit.specs.declared.state.Ran.{Ran}
 use Rattle.implicit.specs.declared.state.Ran.the-variants as A
-use Rattle.implicit.specs.Record.{pixelCount, pixelCells, soundRecord, queueEmpty}
+use Rattle.implicit.specs.Record.{refusedUnless, pixelCount, pixelCells, soundRecord, queueEmpty}
 use Rattle.implicit.specs.Step.{World, StepEnd, refused, finished, tapeStepOf}
 
 -- what a run leaves and reports
@@ -63,9 +63,8 @@ pub data RunAnswer : Type 0 where
 
 unfoldable pub runOf : ℕ → World → List ℕ → RunAnswer
 runOf budget w tape =
-    cond (soundRecord (length (w .ring)) (w .state))
-    (cond (leb (pixelCount (w .state .picture)) (length (w .cells))) (hasRun (runFrom budget w tape)) (notRun R.Cells))
-    (notRun R.Damaged)
+    refusedUnless (notRun R.Damaged) (soundRecord (length (w .ring)) (w .state))
+    (refusedUnless (notRun R.Cells) (leb (pixelCount (w .state .picture)) (length (w .cells))) (hasRun (runFrom budget w tape)))
 
 -- its answer on a record, and the world afterwards
 abbrev pub runAnswer : State → RunAnswer → Ran

@@ -1,13 +1,10 @@
 -- Document 01, the setup, with its refusals 1, 2, 3 and 6 in this order.
-use mathlib.Core.Bool.{Bool, true, false, cond, not, _&&_, _||_}
+use mathlib.Core.Bool.{Bool, cond, _&&_}
 use mathlib.Core.List.{List, [], _∷_, _++_, map}
-use Prim.Native.Nat.{ℕ, zero, suc, _+_, _-_, _*_, _^_, max}
-use lib.Dec.{leb, ltb}
+use Prim.Native.Nat.{ℕ, zero, suc, _+_, _-_, _^_, max}
+use lib.Dec.{leb}
 use lib.ListN.{length}
-use Rattle.refusal.specs.declared.Refusal.{Refusal}
 use Rattle.refusal.specs.declared.Refusal.the-variants as R
-use Rattle.interval.specs.declared.Interval.{Interval}
-use Rattle.interval.specs.Bounds.{legalInterval}
 use Rattle.interval.specs.Cuts.{firstCut}
 use Rattle.image.specs.declared.Op.the-variants as Op
 use Rattle.image.specs.Range.{wholePicture}
@@ -27,9 +24,10 @@ use Rattle.implicit.specs.declared.state.State.{State}
 use Rattle.implicit.specs.declared.state.Ranges.{Ranges}
 use Rattle.implicit.specs.declared.state.Started.{Started}
 use Rattle.implicit.specs.declared.state.Started.the-variants as S
+use Rattle.queue.specs.Code.{parametersLegal}
 use Rattle.queue.specs.Ring.{stored}
 use Rattle.queue.specs.Queue as Queue
-use Rattle.implicit.specs.Record.{pixelCount}
+use Rattle.implicit.specs.Record.{refusedUnless, pixelCount}
 
 -- the start level: the least at which one block covers both sides. Here the least from k on, of n tries
 unfoldable pub leastFrom : ℕ → ℕ → ℕ → ℕ
@@ -66,12 +64,8 @@ unfoldable pub firstBlocks : Picture → Ranges → List Block
 firstBlocks p r = cutFirstIn (p .set) parameters (rootBlock p r ∷ [])
 
 -- what row 3 does not refuse: a set of known variables, and an interval for each parameter in it
-abbrev pub usedLegal : ℕ → Direction → Interval → Bool
-usedLegal set d r = not (inUse set d) || legalInterval r (isInteger d)
-
 unfoldable pub rangesLegal : ℕ → Ranges → Bool
-rangesLegal set r =
-    legalSet set && usedLegal set D.M (r .m) && usedLegal set D.N (r .n) && usedLegal set D.Theta (r .theta) && usedLegal set D.T (r .t)
+rangesLegal set r = legalSet set && parametersLegal set (r .m) (r .n) (r .theta) (r .t)
 
 -- the first blocks' codes, from byte 0
 unfoldable pub firstBytes : Picture → Ranges → List ℕ
@@ -80,20 +74,16 @@ firstBytes p r = Queue.queueCodes (p .set) startingLast (firstBlocks p r)
 -- the first refusal that applies, if any, to a ring of len bytes and count cells
 unfoldable pub setupRefusal : Picture → Ranges → ℕ → ℕ → SetupEnd
 setupRefusal p r len count =
-    cond (legalSide (p .width) && legalSide (p .height))
-    (cond (leb (pixelCount p) count)
-    (cond (rangesLegal (p .set) r)
-    (cond (leb (length (firstBytes p r)) len) E.Begun (E.Rejected R.Room))
-    (E.Rejected R.Parameter))
-    (E.Rejected R.Cells))
-    (E.Rejected R.Side)
+    refusedUnless (E.Rejected R.Side) (legalSide (p .width) && legalSide (p .height))
+    (refusedUnless (E.Rejected R.Cells) (leb (pixelCount p) count)
+    (refusedUnless (E.Rejected R.Parameter) (rangesLegal (p .set) r)
+    (refusedUnless (E.Rejected R.Room) (leb (length (firstBytes p r)) len) E.Begun)))
 
 -- the least ring with which a setup begins, asked before there are a ring and cells: of its refusals 1 and 3 are left
 unfoldable pub leastRing : Picture → Ranges → Needed
 leastRing p r =
-    cond (legalSide (p .width) && legalSide (p .height))
-    (cond (rangesLegal (p .set) r) (N.Bytes (length (firstBytes p r))) (N.Refused R.Parameter))
-    (N.Refused R.Side)
+    refusedUnless (N.Refused R.Side) (legalSide (p .width) && legalSide (p .height))
+    (refusedUnless (N.Refused R.Parameter) (rangesLegal (p .set) r) (N.Bytes (length (firstBytes p r))))
 
 -- the record that an accepted setup leaves
 unfoldable pub startRecord : Picture → Ranges → ℕ → State

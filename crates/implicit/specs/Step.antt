@@ -2,8 +2,8 @@
 -- A step is a function of the record, the ring, the cells and the verdicts: this page says what it answers and leaves.
 use mathlib.Core.Path.{_≡_}
 use mathlib.Core.Bool.{Bool, true, false, cond, not, _&&_}
-use mathlib.Core.List.{List, []}
-use Prim.Native.Nat.{ℕ, _+_, _-_, _^_}
+use mathlib.Core.List.{List}
+use Prim.Native.Nat.{ℕ, _+_, _^_}
 use lib.Dec.{leb, ltb, eqb}
 use lib.ListN.{length, take}
 use Rattle.base.specs.Event.{Event, queuedBy}
@@ -21,11 +21,11 @@ use Rattle.decide.specs.declared.verdict.Outcome.{Outcome}
 use Rattle.decide.specs.Damage.{undamaged, cellDamaged}
 use Rattle.decide.specs.Children.{childrenOf}
 use Rattle.decide.specs.Verdict.{allLegal}
-use Rattle.decide.specs.Plan.{outcomes, evaluations, eventsFor, cellsAfter}
+use Rattle.plan.specs.Plan.{outcomes, evaluations, eventsFor, cellsAfter}
 use Rattle.implicit.specs.declared.state.State.{State}
 use Rattle.implicit.specs.declared.state.Stepped.{Stepped}
 use Rattle.implicit.specs.declared.state.Stepped.the-variants as S
-use Rattle.implicit.specs.Record.{pixelCount, soundRecord, putLast}
+use Rattle.implicit.specs.Record.{refusedUnless, pixelCount, soundRecord, putLast}
 use Rattle.implicit.specs.Listing.{frontOf}
 
 -- what a call is lent and what it leaves: the record, the ring and the cells
@@ -42,9 +42,9 @@ pub data StepEnd : Type 0 where
   refused : Refusal → StepEnd
   finished : World → ℕ → ℕ → StepEnd
 
--- refused, unless the test passes
+-- refused, unless the test passes: `refusedUnless` of a step's end
 unfoldable pub unless : Refusal → Bool → StepEnd → StepEnd
-unless why test rest = cond test rest (refused why)
+unless why test rest = refusedUnless (refused why) test rest
 
 -- what row 4 does not refuse: as many verdicts as children; on a tape, at least as many
 abbrev pub enoughVerdicts : Bool → ℕ → ℕ → Bool

@@ -1,6 +1,6 @@
 -- Document 01, "Numbers of refusal" and "Program and values": the picture and the counts. Their refusals, in order, are 8 for the record, 2, 12 for the picture alone, 8 for a cell.
 -- Neither has a ring: the record's own ring length is taken as the lent one's.
-use mathlib.Core.Bool.{Bool, cond, not}
+use mathlib.Core.Bool.{Bool, not}
 use mathlib.Core.List.{List, map, _++_}
 use Prim.Native.Nat.{ℕ, _+_, _-_, _*_, _/_}
 use lib.Dec.{leb}
@@ -15,7 +15,7 @@ use Rattle.implicit.specs.declared.state.Counted.{Counted}
 use Rattle.implicit.specs.declared.state.Counted.the-variants as C
 use Rattle.implicit.specs.declared.state.Drawn.{Drawn}
 use Rattle.implicit.specs.declared.state.Drawn.the-variants as D
-use Rattle.implicit.specs.Record.{pixelCount, pixelCells, soundRecord}
+use Rattle.implicit.specs.Record.{refusedUnless, pixelCount, pixelCells, soundRecord}
 
 -- no pixel's cell is damaged
 abbrev pub cellsFine : State → List ℕ → Bool
@@ -36,13 +36,10 @@ shareOf settled pixels = (2000 * settled + pixels) / (2 * pixels)
 -- what the picture answers, for a buffer of room bytes: the first refusal that applies, if any
 unfoldable pub pictureAnswer : State → List ℕ → ℕ → Drawn
 pictureAnswer s cells room =
-    cond (soundRecord (s .len) s)
-    (cond (leb (pixelCount (s .picture)) (length cells))
-    (cond (leb (pixelCount (s .picture)) room)
-    (cond (cellsFine s cells) D.Done (D.Refused R.Damaged))
-    (D.Refused R.Picture))
-    (D.Refused R.Cells))
-    (D.Refused R.Damaged)
+    refusedUnless (D.Refused R.Damaged) (soundRecord (s .len) s)
+    (refusedUnless (D.Refused R.Cells) (leb (pixelCount (s .picture)) (length cells))
+    (refusedUnless (D.Refused R.Picture) (leb (pixelCount (s .picture)) room)
+    (refusedUnless (D.Refused R.Damaged) (cellsFine s cells) D.Done)))
 
 -- what the buffer then holds: by a refusal what it held
 abbrev pub ifDrawn : Drawn → List ℕ → List ℕ → List ℕ
@@ -67,8 +64,6 @@ countsOf s cells = countsFrom s (tallied (s .taken) (pixelCells (s .picture) cel
 -- what the counts answer: the first refusal that applies, or the counts of the pixels
 unfoldable pub countsAnswer : State → List ℕ → Counted
 countsAnswer s cells =
-    cond (soundRecord (s .len) s)
-    (cond (leb (pixelCount (s .picture)) (length cells))
-    (cond (cellsFine s cells) (C.Of (countsOf s cells)) (C.Refused R.Damaged))
-    (C.Refused R.Cells))
-    (C.Refused R.Damaged)
+    refusedUnless (C.Refused R.Damaged) (soundRecord (s .len) s)
+    (refusedUnless (C.Refused R.Cells) (leb (pixelCount (s .picture)) (length cells))
+    (refusedUnless (C.Refused R.Damaged) (cellsFine s cells) (C.Of (countsOf s cells))))

@@ -4,26 +4,29 @@ ghost use mathlib.Core.Bool.{true};
 ghost use Prim.Native.Nat.{_+_, _^_, _≤_};
 ghost use lib.Dec.{leb};
 ghost use lib.ListN.{length};
-ghost use Rattle.decide.specs.Children.{childrenOf};
-ghost use Rattle.implicit.specs.Record.{pixelCount};
+ghost use Rattle.decide.specs.Children.{childrenOf, listed};
+ghost use Rattle.decide.specs.Damage.{legalPicture};
+ghost use Rattle.implicit.specs.Record.{pixelCount, soundRecord};
 ghost use Rattle.implicit.specs.Step.{worldOf, blockFine, enoughVerdicts, judged, stepWith, stepOf, tapeStepOf, EndsAs};
+ghost use Rattle.implicit.specs.ByStep.{SoundByUse};
 ghost use Rattle.implicit.specs.ByChild.{opening, Begun, blockCheck, withCode, sizedBy, sizeOf, planCheck};
 ghost use Rattle.queue.specs.Queue.{measured};
 use crate::commit::commit;
+use crate::record::has_sound_use;
 use crate::record::is_sound;
 use crate::record::pixel_count;
 use crate::record::put_last;
 use crate::state::State;
 use crate::state::Stepped;
 use decide::Picture;
+use decide::children::Children;
 use decide::children::children_of;
 use decide::damage::has_damaged_cell;
-use decide::damage::is_undamaged;
-use decide::plan::Fate;
-use decide::plan::Plan;
-use decide::plan::Planned;
-use decide::plan::plan_step;
 use image::Seen;
+use plan::Fate;
+use plan::Plan;
+use plan::Planned;
+use plan::plan_children;
 use queue::Block;
 use queue::Last;
 use queue::Measured;
@@ -60,22 +63,48 @@ struct Size {
 pub fn step(s: State, ring: &mut [u8], cells: &mut [u64], verdicts: &[u8]) -> Stepped
     ensures { λ r. ⌜ EndsAs (worldOf s (now (ring .entry)) (now (cells .entry))) (stepOf (worldOf s (now (ring .entry)) (now (cells .entry))) (now (verdicts .entry))) r (now (ring .exit)) (now (cells .exit)) ⌝ }
 {
+    if !is_sound(ring.len(), s) {
+        return Stepped::Refused {
+            why: Refusal::Damaged,
+            state: s,
+        };
+    }
     advance(s, ring, cells, verdicts, false)
 }
 
-// One step of a run: verdicts beyond those that it takes stay for the next.
+// One step of a run: verdicts beyond those that it takes stay for the next. What the step before left is sound if its use is, so that only this is tested.
 pub(crate) fn step_on_tape(s: State, ring: &mut [u8], cells: &mut [u64], tape: &[u8]) -> Stepped
+    requires { ⌜ SoundByUse (length (now ring)) s ⌝ }
     ensures { λ r. ⌜ EndsAs (worldOf s (now (ring .entry)) (now (cells .entry))) (tapeStepOf (worldOf s (now (ring .entry)) (now (cells .entry))) (now (tape .entry))) r (now (ring .exit)) (now (cells .exit)) ⌝ }
 {
+    if !has_sound_use(s) {
+        return Stepped::Refused {
+            why: Refusal::Damaged,
+            state: s,
+        };
+    }
     advance(s, ring, cells, tape, true)
 }
 
+// The step on a sound record.
 fn advance(s: State, ring: &mut [u8], cells: &mut [u64], verdicts: &[u8], tape: bool) -> Stepped
+    requires { ⌜ soundRecord (length (now ring)) s ≡ true ⌝ }
     ensures { λ r. ⌜ EndsAs (worldOf s (now (ring .entry)) (now (cells .entry))) (stepWith tape (worldOf s (now (ring .entry)) (now (cells .entry))) (now (verdicts .entry))) r (now (ring .exit)) (now (cells .exit)) ⌝ }
 {
     match take_front(s, ring, cells.len()) {
         Opened::Refused(why) => Stepped::Refused { why, state: s },
-        Opened::At(front) => take_block(s, ring, cells, verdicts, tape, front),
+        // field by field, so that no bytes between the fields are copied
+        Opened::At(front) => {
+            let block = front.block;
+            let last = front.last;
+            let f = Front {
+                block,
+                last,
+                head: front.head,
+                used: front.used,
+            };
+            take_block(s, ring, cells, verdicts, tape, f)
+        }
     }
 }
 
@@ -85,9 +114,6 @@ fn advance(s: State, ring: &mut [u8], cells: &mut [u64], verdicts: &[u8], tape: 
 fn take_front(s: State, ring: &[u8], cells: usize) -> Opened
     ensures { λ r. ⌜ r ≡ opening s (now (ring .entry)) cells ⌝ }
 {
-    if !is_sound(ring.len(), s) {
-        return Opened::Refused(Refusal::Damaged);
-    }
     if cells < pixel_count(s.picture) {
         return Opened::Refused(Refusal::Cells);
     }
@@ -95,7 +121,8 @@ fn take_front(s: State, ring: &[u8], cells: usize) -> Opened
         return Opened::Refused(Refusal::Empty);
     }
     let p = s.picture;
-    match queue::take(ring, s.head, s.used, p.set, s.front) {
+    let front = s.front;
+    match queue::take(ring, s.head, s.used, p.set, front) {
         Taken::Front {
             block,
             last,
@@ -126,21 +153,17 @@ fn take_block(
     requires { ⌜ Begun s (now ring) (now cells) front ⌝ }
     ensures { λ r. ⌜ EndsAs (worldOf s (now (ring .entry)) (now (cells .entry))) (stepWith tape (worldOf s (now (ring .entry)) (now (cells .entry))) (now (verdicts .entry))) r (now (ring .exit)) (now (cells .exit)) ⌝ }
 {
-    let count = count_children(s.picture, front.block);
-    match check_block(s.picture, front.block, cells, count, verdicts.len(), tape) {
+    let p = s.picture;
+    let b = front.block;
+    let kids = children_of(p, b);
+    let count = kids.count;
+    match check_block(p, b, cells, count, verdicts.len(), tape) {
         Check::Refused(why) => Stepped::Refused { why, state: s },
-        Check::Passed => judge(s, ring, cells, &verdicts[0..count], front),
+        Check::Passed => judge(s, ring, cells, &verdicts[0..count], front, kids),
     }
 }
 
-// How many children a block has.
-fn count_children(p: Picture, b: Block) -> usize
-    ensures { λ r. ⌜ r ≡ length (childrenOf p b) ⌝ }
-{
-    let kids = children_of(p, b);
-    kids.count
-}
-
+// The block's own refusals, by the number of its children.
 fn check_block(
     p: Picture,
     b: Block,
@@ -149,10 +172,10 @@ fn check_block(
     verdicts: usize,
     tape: bool,
 ) -> Check
-    requires { ⌜ leb (pixelCount p) (length (now cells)) ≡ true ⌝ }
+    requires { ⌜ (leb (pixelCount p) (length (now cells)) ≡ true) × (legalPicture p ≡ true) × (children ≡ length (childrenOf p b)) ⌝ }
     ensures { λ r. ⌜ r ≡ blockCheck p b (now (cells .entry)) children verdicts tape ⌝ }
 {
-    if !is_fine(p, b, cells) {
+    if !is_fine(p, b, cells, children) {
         return Check::Refused(Refusal::Damaged);
     }
     if !has_enough(tape, children, verdicts) {
@@ -161,14 +184,14 @@ fn check_block(
     Check::Passed
 }
 
-// Whether neither the block nor a cell that it covers is damaged.
-fn is_fine(p: Picture, b: Block, cells: &[u64]) -> bool
-    requires { ⌜ leb (pixelCount p) (length (now cells)) ≡ true ⌝ }
+// Whether neither the block nor a cell that it covers is damaged: a damaged block, and no other, has no child.
+fn is_fine(p: Picture, b: Block, cells: &[u64], children: usize) -> bool
+    requires { ⌜ (leb (pixelCount p) (length (now cells)) ≡ true) × (legalPicture p ≡ true) × (children ≡ length (childrenOf p b)) ⌝ }
     ensures { λ r. ⌜ r ≡ blockFine p (now (cells .entry)) b ⌝ }
 {
     match has_damaged_cell(p, b, cells) {
         Seen::Yes => false,
-        Seen::No => is_undamaged(p, b),
+        Seen::No => 0 < children,
         Seen::Outside => false,
     }
 }
@@ -183,12 +206,19 @@ fn has_enough(tape: bool, children: usize, verdicts: usize) -> bool
     }
 }
 
-// The step with a verdict for each child.
-fn judge(s: State, ring: &mut [u8], cells: &mut [u64], verdicts: &[u8], front: Front) -> Stepped
-    requires { ⌜ Begun s (now ring) (now cells) front × (blockFine (s .picture) (now cells) (front .block) ≡ true) ⌝ }
+// The step with a verdict for each of these children.
+fn judge(
+    s: State,
+    ring: &mut [u8],
+    cells: &mut [u64],
+    verdicts: &[u8],
+    front: Front,
+    kids: Children,
+) -> Stepped
+    requires { ⌜ Begun s (now ring) (now cells) front × (blockFine (s .picture) (now cells) (front .block) ≡ true) × (kids ≡ listed (front .block) (childrenOf (s .picture) (front .block))) ⌝ }
     ensures { λ r. ⌜ EndsAs (worldOf s (now (ring .entry)) (now (cells .entry))) (judged (worldOf s (now (ring .entry)) (now (cells .entry))) (front .block) (front .last) (front .head) (front .used) (now (verdicts .entry))) r (now (ring .exit)) (now (cells .exit)) ⌝ }
 {
-    let plan = plan_step(s.picture, front.block, verdicts, cells);
+    let plan = plan_children(s.picture, front.block, kids, verdicts, cells);
     match check_plan(s, ring.len(), front.used, plan) {
         Check::Refused(why) => Stepped::Refused { why, state: s },
         Check::Passed => {
@@ -202,7 +232,8 @@ fn judge(s: State, ring: &mut [u8], cells: &mut [u64], verdicts: &[u8], front: F
     }
 }
 
-// The verdicts' legality, the numbers of the new blocks, and the room for them behind the bytes used.
+// The verdicts' legality, the numbers of the new blocks, and the room for them behind the bytes used. A code has at most 83 bytes, so with room for four of
+// that length nothing is measured.
 fn check_plan(s: State, len: usize, used: usize, plan: Plan) -> Check
     requires { ⌜ (s .queued ≤ 2 ^ 32) × (plan .queued ≤ 4) × (used ≤ len) × (length (plan .at) ≡ 4) ⌝ }
     ensures { λ r. ⌜ r ≡ planCheck s len used plan ⌝ }
@@ -213,8 +244,12 @@ fn check_plan(s: State, len: usize, used: usize, plan: Plan) -> Check
     if 4294967296 < s.queued + plan.queued as u64 {
         return Check::Refused(Refusal::Numbers);
     }
+    let room = len - used;
+    if 332 <= room {
+        return Check::Passed;
+    }
     let p = s.picture;
-    if len - used < size_of(p.set, put_last(s.back), plan) {
+    if room < size_of(p.set, put_last(s.back), plan) {
         return Check::Refused(Refusal::Room);
     }
     Check::Passed

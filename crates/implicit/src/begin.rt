@@ -4,12 +4,11 @@ ghost use mathlib.Core.Path.{_≡_};
 ghost use mathlib.Core.Bool.{true};
 ghost use Prim.Native.Nat.{_+_, _*_, _<_, _≤_, max};
 ghost use lib.ListN.{length};
-ghost use Rattle.interval.specs.Answers.{piecesOf};
 ghost use Rattle.queue.specs.Block.{settled};
 ghost use Rattle.queue.specs.Code.{encode};
 ghost use Rattle.queue.specs.Queue.{codable};
 ghost use Rattle.queue.specs.Ring.{fitsRing, storedBehind};
-ghost use Rattle.implicit.specs.Setup.{leastFrom, startLevel, rootBlock, usedLegal, rangesLegal, firstBytes, setupRefusal, leastRing, startRecord, startRing, startCells, startedAnswer, pictureOf, ringBegun, cellsBegun};
+ghost use Rattle.implicit.specs.Setup.{startLevel, rootBlock, rangesLegal, firstBytes, setupRefusal, leastRing, startRecord, startRing, startCells, startedAnswer, pictureOf, ringBegun, cellsBegun};
 ghost use Rattle.implicit.specs.Product.{piecesKept, productOf, pieceCount, pieceAt, chosenBy, productCount, productAt, behindWith, behindFirst};
 use super::state::Needed;
 use super::state::Ranges;
@@ -25,6 +24,7 @@ use queue::Appended;
 use queue::Block;
 use queue::Last;
 use queue::Measured;
+use queue::code::are_fine;
 use queue::directions::Direction;
 use queue::directions::is_used;
 use queue::kept::is_integer;
@@ -244,25 +244,12 @@ fn measure_first(p: Picture, ranges: Ranges) -> usize
     k.used
 }
 
-// Whether a parameter is legal or not used.
-fn is_used_legal(set: u8, d: Direction, range: Interval) -> bool
-    ensures { λ r. ⌜ r ≡ usedLegal set d range ⌝ }
-{
-    if !is_used(set, d) {
-        return true;
-    }
-    interval::is_legal(range, is_integer(d))
-}
-
 // Whether the variable set and the ranges of its parameters are legal.
 fn are_ranges_legal(set: u8, ranges: Ranges) -> bool
     ensures { λ r. ⌜ r ≡ rangesLegal set ranges ⌝ }
 {
-    let m = is_used_legal(set, Direction::M, ranges.m);
-    let n = is_used_legal(set, Direction::N, ranges.n);
-    let theta = is_used_legal(set, Direction::Theta, ranges.theta);
-    let t = is_used_legal(set, Direction::T, ranges.t);
-    (set <= 63) & m & n & theta & t
+    let fine = are_fine(set, ranges.m, ranges.n, ranges.theta, ranges.t);
+    (set <= 63) & fine
 }
 
 // The first refusal that applies, if any, to a ring of so many bytes and so many cells.

@@ -3,18 +3,24 @@ ghost use mathlib.Core.Path.{_≡_};
 ghost use Prim.Native.Nat.{_+_, _^_, _≤_};
 ghost use lib.ListN.{length};
 ghost use Rattle.implicit.specs.Step.{worldOf};
-ghost use Rattle.implicit.specs.ByChild.{paintedBlock, markedBy, markedAll, takenState, numbered, withQueued, carriedBy, carriedAll, committed};
+ghost use Rattle.implicit.specs.ByChild.{paintedBlock, markedBy, markedAll, takenState, withCarried, withQueued, carriedBy, carriedAll, committed};
 use crate::advance::Front;
 use crate::record::put_last;
 use crate::state::State;
 use decide::Picture;
-use decide::plan::Fate;
-use decide::plan::Plan;
-use decide::plan::Planned;
 use image::Op;
+use plan::Fate;
+use plan::Plan;
+use plan::Planned;
 use queue::Appended;
 use queue::Block;
 use queue::Last;
+
+// What a child leaves in the record: a queued one is remembered, and so many bytes are used.
+enum Carried {
+    Queued { last: Last, used: usize },
+    Nothing,
+}
 
 // Carries the plan out: the cells' marks in order, then the children that are queued or find no direction, in order.
 pub(crate) fn commit(
@@ -48,7 +54,10 @@ fn mark_child(p: Picture, cells: &mut [u64], e: Planned)
     let fate = e.fate;
     match fate {
         Fate::Nothing => {}
-        Fate::Mark => paint_block(p, cells, e.block, Op::Mark),
+        Fate::Mark => {
+            let b = e.block;
+            paint_block(p, cells, b, Op::Mark)
+        }
         Fate::Queue => {}
         Fate::GiveUp => {}
     }
@@ -96,7 +105,14 @@ fn carry_children(
     let mut next = s;
     for i in 0..4 {
         let e = plan.at[i];
-        next = carry_child(next, ring, cells, from, parent, e);
+        match carry_child(next, ring, cells, from, parent, e) {
+            Carried::Queued { last, used } => {
+                next.queued = next.queued + 1;
+                next.used = used;
+                next.back = last;
+            }
+            Carried::Nothing => {}
+        }
     }
     next
 }
@@ -108,50 +124,59 @@ fn carry_child(
     from: u64,
     parent: Block,
     e: Planned,
-) -> State
-    requires { ⌜ s .queued ≤ 2 ^ 33 ⌝ }
-    ensures { λ r. ⌜ (worldOf r (now (ring .exit)) (now (cells .exit)) ≡ carriedBy from parent (worldOf s (now (ring .entry)) (now (cells .entry))) (e .block) (e .fate)) × (r .queued ≤ s .queued + 1) ⌝ }
+) -> Carried
+    ensures { λ r. ⌜ worldOf (withCarried s r) (now (ring .exit)) (now (cells .exit)) ≡ carriedBy from parent (worldOf s (now (ring .entry)) (now (cells .entry))) (e .block) (e .fate) ⌝ }
 {
     let fate = e.fate;
     match fate {
-        Fate::Nothing => s,
-        Fate::Mark => s,
-        Fate::Queue => queue_child(s, ring, cells, from, e.block),
-        Fate::GiveUp => give_up(s, cells, parent),
+        Fate::Nothing => Carried::Nothing,
+        Fate::Mark => Carried::Nothing,
+        Fate::Queue => {
+            let b = e.block;
+            queue_child(s, ring, cells, from, b)
+        }
+        Fate::GiveUp => {
+            let p = s.picture;
+            give_up(p, cells, parent)
+        }
     }
 }
 
 // All cells of the parent, True ones too.
-fn give_up(s: State, cells: &mut [u64], parent: Block) -> State
-    ensures { λ r. ⌜ (r ≡ s) × (now (cells .exit) ≡ paintedBlock (s .picture) parent Op.GiveUp (now (cells .entry))) ⌝ }
+fn give_up(p: Picture, cells: &mut [u64], parent: Block) -> Carried
+    ensures { λ r. ⌜ (r ≡ Carried.Nothing) × (now (cells .exit) ≡ paintedBlock p parent Op.GiveUp (now (cells .entry))) ⌝ }
 {
-    paint_block(s.picture, cells, parent, Op::GiveUp);
-    s
-}
-
-fn queue_child(s: State, ring: &mut [u8], cells: &mut [u64], from: u64, b: Block) -> State
-    requires { ⌜ s .queued ≤ 2 ^ 33 ⌝ }
-    ensures { λ r. ⌜ (worldOf r (now (ring .exit)) (now (cells .exit)) ≡ withQueued from b (worldOf s (now (ring .entry)) (now (cells .entry)))) × (r .queued ≤ s .queued + 1) ⌝ }
-{
-    let p = s.picture;
-    match queue::append(ring, s.head, s.used, p.set, s.back, b) {
-        Appended::Done { last, used } => name_child(s, cells, from, b, last, used),
-        Appended::NoRoom => s,
-        Appended::NotCodable => s,
-        Appended::Outside => s,
-    }
+    paint_block(p, cells, parent, Op::GiveUp);
+    Carried::Nothing
 }
 
 // The child has the next number.
-fn name_child(s: State, cells: &mut [u64], from: u64, b: Block, last: Last, used: usize) -> State
-    requires { ⌜ s .queued ≤ 2 ^ 33 ⌝ }
-    ensures { λ r. ⌜ (r ≡ numbered s last used) × (now (cells .exit) ≡ paintedBlock (s .picture) b (Op.Name from (s .queued)) (now (cells .entry))) ⌝ }
+fn queue_child(s: State, ring: &mut [u8], cells: &mut [u64], from: u64, b: Block) -> Carried
+    ensures { λ r. ⌜ worldOf (withCarried s r) (now (ring .exit)) (now (cells .exit)) ≡ withQueued from b (worldOf s (now (ring .entry)) (now (cells .entry))) ⌝ }
 {
+    let p = s.picture;
     let name = Op::Name { from, to: s.queued };
-    paint_block(s.picture, cells, b, name);
-    let mut r = s;
-    r.queued = s.queued + 1;
-    r.used = used;
-    r.back = last;
-    r
+    let back = s.back;
+    match queue::append(ring, s.head, s.used, p.set, back, b) {
+        Appended::Done { last, used } => {
+            paint_block(p, cells, b, name);
+            // field by field, so that no bytes between the fields are copied
+            let m = last.m;
+            let n = last.n;
+            let theta = last.theta;
+            let t = last.t;
+            let kept = Last {
+                x: last.x,
+                y: last.y,
+                m,
+                n,
+                theta,
+                t,
+            };
+            Carried::Queued { last: kept, used }
+        }
+        Appended::NoRoom => Carried::Nothing,
+        Appended::NotCodable => Carried::Nothing,
+        Appended::Outside => Carried::Nothing,
+    }
 }

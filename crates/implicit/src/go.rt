@@ -4,10 +4,10 @@ ghost use mathlib.Core.Bool.{true};
 ghost use Prim.Native.Nat.{_+_, _*_, _-_, _^_, _≤_, _<_};
 ghost use lib.Dec.{leb};
 ghost use lib.ListN.{length};
-ghost use Rattle.implicit.specs.Record.{pixelCount};
+ghost use Rattle.implicit.specs.Record.{pixelCount, soundRecord};
 ghost use Rattle.implicit.specs.Step.{worldOf, worldAfter};
 ghost use Rattle.implicit.specs.Run.{RunsAs, runOf, runFrom, emptyEnding};
-ghost use Rattle.implicit.specs.ByStep.{halted, stepped, progressAfter, nextStep, turnedOnce, worldOnce, Bounded, RunTo};
+ghost use Rattle.implicit.specs.ByStep.{halted, stepped, progressAfter, nextStep, turnedOnce, worldOnce, SoundByUse, Bounded, RunTo};
 use crate::advance::step_on_tape;
 use crate::record::is_empty;
 use crate::record::is_sound;
@@ -66,7 +66,7 @@ fn report(p: Progress) -> Ran
 
 // All steps of a run.
 fn take_steps(s: State, ring: &mut [u8], cells: &mut [u64], tape: &[u8], budget: u32) -> Progress
-    requires { ⌜ leb (pixelCount (s .picture)) (length (now cells)) ≡ true ⌝ }
+    requires { ⌜ (leb (pixelCount (s .picture)) (length (now cells)) ≡ true) × (soundRecord (length (now ring)) s ≡ true) ⌝ }
     ensures { λ r. ⌜ RunTo (runFrom budget (worldOf s (now (ring .entry)) (now (cells .entry))) (now (tape .entry))) r (now (ring .exit)) (now (cells .exit)) ⌝ }
 {
     let mut p = Progress {
@@ -85,8 +85,8 @@ fn take_steps(s: State, ring: &mut [u8], cells: &mut [u64], tape: &[u8], budget:
 
 // The tests of a run in their order, and the next step.
 fn go_on(p: Progress, ring: &mut [u8], cells: &mut [u64], tape: &[u8], budget: u32) -> Progress
-    requires { ⌜ Bounded budget (now tape) p × (leb (pixelCount (p .state .picture)) (length (now cells)) ≡ true) ⌝ }
-    ensures { λ r. ⌜ (r ≡ turnedOnce budget p (now (ring .entry)) (now (cells .entry)) (now (tape .entry))) × (worldOf (r .state) (now (ring .exit)) (now (cells .exit)) ≡ worldOnce budget p (now (ring .entry)) (now (cells .entry)) (now (tape .entry))) ⌝ }
+    requires { ⌜ Bounded budget (now tape) p × (leb (pixelCount (p .state .picture)) (length (now cells)) ≡ true) × SoundByUse (length (now ring)) (p .state) ⌝ }
+    ensures { λ r. ⌜ (r ≡ turnedOnce budget p (now (ring .entry)) (now (cells .entry)) (now (tape .entry))) × (worldOf (r .state) (now (ring .exit)) (now (cells .exit)) ≡ worldOnce budget p (now (ring .entry)) (now (cells .entry)) (now (tape .entry))) × SoundByUse (length (now (ring .exit))) (r .state) ⌝ }
 {
     if is_empty(p.state) {
         let s = p.state;
@@ -132,8 +132,8 @@ fn halt(p: Progress, ending: Ending) -> Progress
 
 // The next step, on the rest of the tape.
 fn go_step(p: Progress, ring: &mut [u8], cells: &mut [u64], tape: &[u8]) -> Progress
-    requires { ⌜ (p .tape ≤ length (now tape)) × (p .steps < 2 ^ 32) × (p .evaluations ≤ 24 * p .steps) ⌝ }
-    ensures { λ r. ⌜ (r ≡ progressAfter p (nextStep p (now (ring .entry)) (now (cells .entry)) (now (tape .entry)))) × (worldOf (r .state) (now (ring .exit)) (now (cells .exit)) ≡ worldAfter (worldOf (p .state) (now (ring .entry)) (now (cells .entry))) (nextStep p (now (ring .entry)) (now (cells .entry)) (now (tape .entry)))) ⌝ }
+    requires { ⌜ (p .tape ≤ length (now tape)) × (p .steps < 2 ^ 32) × (p .evaluations ≤ 24 * p .steps) × SoundByUse (length (now ring)) (p .state) ⌝ }
+    ensures { λ r. ⌜ (r ≡ progressAfter p (nextStep p (now (ring .entry)) (now (cells .entry)) (now (tape .entry)))) × (worldOf (r .state) (now (ring .exit)) (now (cells .exit)) ≡ worldAfter (worldOf (p .state) (now (ring .entry)) (now (cells .entry))) (nextStep p (now (ring .entry)) (now (cells .entry)) (now (tape .entry)))) × SoundByUse (length (now (ring .exit))) (r .state) ⌝ }
 {
     let at = p.tape;
     match step_on_tape(p.state, ring, cells, &tape[at..]) {

@@ -1,7 +1,9 @@
 // The children of the front block, which an evaluator asks for before it answers. Added: the Rust evaluates inside the step.
 ghost use mathlib.Core.Path.{_≡_};
+ghost use mathlib.Core.Bool.{true};
 ghost use mathlib.Core.List.{[]};
 ghost use Rattle.decide.specs.Children.{listed};
+ghost use Rattle.decide.specs.Damage.{legalPicture};
 ghost use Rattle.implicit.specs.Listing.{frontOf, blankBlock, unlisted, listedBlock, listedFrom, childrenListed};
 use crate::record::is_sound;
 use crate::state::Drawn;
@@ -11,7 +13,6 @@ use coordinate::Coordinate;
 use decide::Picture;
 use decide::children::Children;
 use decide::children::children_of;
-use decide::damage::is_undamaged;
 use queue::Block;
 use queue::Taken;
 use queue::kept::whole_line;
@@ -31,6 +32,7 @@ pub fn children(s: State, ring: &[u8]) -> Listed
 }
 
 fn list_front(s: State, ring: &[u8]) -> Listed
+    requires { ⌜ legalPicture (s .picture) ≡ true ⌝ }
     ensures { λ r. ⌜ r ≡ listedFrom s (frontOf s (now (ring .entry))) ⌝ }
 {
     let p = s.picture;
@@ -46,13 +48,16 @@ fn list_front(s: State, ring: &[u8]) -> Listed
     }
 }
 
+// A damaged block, and no other, has no child.
 fn list_block(p: Picture, b: Block) -> Listed
+    requires { ⌜ legalPicture p ≡ true ⌝ }
     ensures { λ r. ⌜ r ≡ listedBlock p b ⌝ }
 {
-    if is_undamaged(p, b) {
+    let kids = children_of(p, b);
+    if 0 < kids.count {
         return Listed {
             answer: Drawn::Done,
-            children: children_of(p, b),
+            children: kids,
         };
     }
     refuse(Refusal::Damaged)

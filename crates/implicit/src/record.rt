@@ -31,7 +31,8 @@ fn has_sound_ring(len: usize, s: State) -> bool
     (s.len == len) & (s.head < len) & (s.used <= len)
 }
 
-fn has_sound_use(s: State) -> bool
+// Whether no byte is used exactly if no block is left.
+pub(crate) fn has_sound_use(s: State) -> bool
     ensures { λ r. ⌜ r ≡ soundUse s ⌝ }
 {
     (s.used == 0) == (s.taken == s.queued)

@@ -4,7 +4,6 @@ ghost use mathlib.Core.Path.{_≡_};
 ghost use mathlib.Core.Bool.{true};
 ghost use Prim.Native.Nat.{_+_, _^_, _≤_};
 ghost use lib.ListN.{length};
-ghost use Rattle.image.specs.Cell.{meaningOf, reading, byteOf};
 ghost use Rattle.implicit.specs.Record.{pixelCount, soundRecord};
 ghost use Rattle.implicit.specs.View.{cellsFine, pictureLeft, shareOf, pictureAnswer, ifDrawn, countsFrom, countsOf, countsAnswer};
 use crate::record::is_sound;
@@ -14,7 +13,6 @@ use crate::state::Counts;
 use crate::state::Drawn;
 use crate::state::State;
 use image::Kind;
-use image::Seen;
 use image::Tally;
 use image::TallyAnswer;
 use refusal::Refusal;
@@ -69,29 +67,16 @@ fn are_fine(s: State, cells: &[u64]) -> bool
     requires { ⌜ pixelCount (s .picture) ≤ length (now cells) ⌝ }
     ensures { λ r. ⌜ r ≡ cellsFine s (now (cells .entry)) ⌝ }
 {
-    let p = s.picture;
-    let all = image::whole(p.width, p.height);
-    match image::is_one(cells, p.width, p.height, all, Kind::Damaged) {
-        Seen::Yes => false,
-        Seen::No => true,
-        Seen::Outside => false,
-    }
+    let pixels = pixel_count(s.picture);
+    !image::is_any(&cells[0..pixels], Kind::Damaged)
 }
 
 fn draw(s: State, cells: &[u64], out: &mut [u8])
     requires { ⌜ (pixelCount (s .picture) ≤ length (now cells)) × (pixelCount (s .picture) ≤ length (now out)) ⌝ }
     ensures { λ _. ⌜ now (out .exit) ≡ pictureLeft s (now (cells .entry)) (now (out .entry)) ⌝ }
 {
-    let taken = s.taken;
-    for i in 0..pixel_count(s.picture) {
-        out[i] = byte_of(cells[i], taken);
-    }
-}
-
-fn byte_of(cell: u64, taken: u64) -> u8
-    ensures { λ r. ⌜ r ≡ byteOf (reading taken (meaningOf cell)) ⌝ }
-{
-    image::reading_byte(image::read_cell(cell, taken))
+    let pixels = pixel_count(s.picture);
+    image::draw(&cells[0..pixels], s.taken, &mut out[0..pixels]);
 }
 
 fn count_pixels(s: State, cells: &[u64]) -> Counted

@@ -1,7 +1,7 @@
 -- `engine::smyrilox_picture` meets its contract. Assumes nothing.
 use mathlib.Core.Path.{_∙_, ap}
 use borrow.Author.Needs.{needs}
-use Rattle.capi.specs.Engine.{drawnTold}
+use Rattle.implicit.specs.Answers.{drawnNumber}
 use Rattle.capi.proofs.engine.smyrilox_picture.Statement.{statement}
 use Rattle.capi.proofs.engine.smyrilox_picture.Tie as tie
 
@@ -15,7 +15,7 @@ same-length : tie.Need-same-length
 same-length c = search needs
 
 returns : tie.Need-returns
-returns c = (c .tell-drawn .ensures ∙ ap drawnTold (c .before .before .before .picture .ensures .0), rw (c .before .before .before .picture .ensures .0) at (c .before .before .before .picture .ensures .1))
+returns c = (c .tell-drawn .ensures ∙ ap drawnNumber (c .before .before .before .picture .ensures .0), rw (c .before .before .before .picture .ensures .0) at (c .before .before .before .picture .ensures .1))
 
 pub smyrilox-picture-spec : {M : Type 1} → statement M
 smyrilox-picture-spec =

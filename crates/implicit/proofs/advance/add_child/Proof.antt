@@ -1,5 +1,5 @@
 -- `advance::add_child` meets its contract. Assumes nothing.
-use mathlib.Core.Path.{_≡_, refl, sym, ap, _∙_}
+use mathlib.Core.Path.{sym, ap, _∙_}
 use native.Mathlib.Omega.{arith}
 use Rattle.implicit.specs.ByChild.{sizedBy}
 use borrow.Author.Needs.{needs}

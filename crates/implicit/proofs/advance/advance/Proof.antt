@@ -1,5 +1,4 @@
 -- `advance::advance` meets its contract. Assumes nothing.
-use mathlib.Core.Path.{_≡_, refl, sym, ap, _∙_}
 use denote.Ref.{now}
 use Rattle.implicit.specs.Step.{worldOf}
 use Rattle.implicit.proofs.StepLaws.{step-refused, begun-of, ends-refused}
@@ -17,13 +16,13 @@ enum-known-front : tie.Need-enum-known-front
 enum-known-front c = search needs
 
 take-block-requires : tie.Need-take-block-requires
-take-block-requires c κs = begun-of (c .before .before .before .before .before .before .before .before .before .before .args .s) (now (c .before .before .before .before .before .before .before .before .before .before .args .ring)) (now (c .before .before .before .before .before .before .before .before .before .before .args .cells)) (c .before .before .before .before .before .take-front .result) _ (c .before .before .before .before .before .take-front .ensures) (c .before .before .before .front .given .1)
+take-block-requires c κs = begun-of (c .before .before .before .before .before .before .before .before .before .before .before .before .args .s) (now (c .before .before .before .before .before .before .before .before .before .before .before .before .args .ring)) (now (c .before .before .before .before .before .before .before .before .before .before .before .before .args .cells)) (c .before .before .before .before .before .before .before .take-front .result) _ (c .before .before .before .before .before .before .before .before .before .before .before .before .pre) (c .before .before .before .before .before .before .before .take-front .ensures) (c .before .before .before .before .before .front .given .1)
 
 same-length : tie.Need-same-length
 same-length c = search needs
 
 returns : tie.Need-returns
-returns c = ends-refused (worldOf (c .before .before .before .before .before .before .before .before .args .s) (now (c .before .before .before .before .before .before .before .before .args .ring)) (now (c .before .before .before .before .before .before .before .before .args .cells))) _ _ (step-refused (c .before .before .before .before .before .before .before .before .args .tape) (c .before .before .before .before .before .before .before .before .args .s) (now (c .before .before .before .before .before .before .before .before .args .ring)) (now (c .before .before .before .before .before .before .before .before .args .cells)) (now (c .before .before .before .before .before .before .before .before .args .verdicts)) (c .before .before .before .take-front .result) _ (c .before .before .before .take-front .ensures) (c .before .why .given .1))
+returns c = ends-refused (worldOf (c .before .before .before .before .before .before .before .before .args .s) (now (c .before .before .before .before .before .before .before .before .args .ring)) (now (c .before .before .before .before .before .before .before .before .args .cells))) _ _ (step-refused (c .before .before .before .before .before .before .before .before .args .tape) (c .before .before .before .before .before .before .before .before .args .s) (now (c .before .before .before .before .before .before .before .before .args .ring)) (now (c .before .before .before .before .before .before .before .before .args .cells)) (now (c .before .before .before .before .before .before .before .before .args .verdicts)) (c .before .before .before .take-front .result) _ (c .before .before .before .before .before .before .before .before .pre) (c .before .before .before .take-front .ensures) (c .before .why .given .1))
 
 same-length-2 : tie.Need-same-length-2
 same-length-2 c = search needs

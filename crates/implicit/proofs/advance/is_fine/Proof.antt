@@ -14,20 +14,17 @@ enum-told c = search needs
 enum-told-2 : tie.Need-enum-told-2
 enum-told-2 c = search needs
 
-is-undamaged-requires : tie.Need-is-undamaged-requires
-is-undamaged-requires c κs = search needs
-
 enum-told-3 : tie.Need-enum-told-3
 enum-told-3 c = search needs
 
 returns : tie.Need-returns
-returns c = fine-damaged (c .before .before .before .before .args .p) (c .before .before .before .before .args .b) (now (c .before .before .before .before .args .cells)) (c .before .before .before .before .pre) (c .before .before .has-damaged-cell .result) (c .before .before .has-damaged-cell .ensures) (c .enum-told .given .1)
+returns c = fine-damaged (c .before .before .before .before .args .p) (c .before .before .before .before .args .b) (now (c .before .before .before .before .args .cells)) (c .before .before .before .before .pre .0) (c .before .before .has-damaged-cell .result) (c .before .before .has-damaged-cell .ensures) (c .enum-told .given .1)
 
 returns-2 : tie.Need-returns-2
-returns-2 c = fine-as (c .before .before .before .before .before .args .p) (c .before .before .before .before .before .args .b) (now (c .before .before .before .before .before .args .cells)) (c .before .before .before .before .before .pre) (c .before .before .before .has-damaged-cell .result) (c .before .before .before .has-damaged-cell .ensures) (c .before .enum-told2 .given .1) (c .is-undamaged .result) (c .is-undamaged .ensures)
+returns-2 c = fine-as (c .before .before .before .before .args .p) (c .before .before .before .before .args .b) (now (c .before .before .before .before .args .cells)) (c .before .before .before .before .pre .0) (c .before .before .has-damaged-cell .result) (c .before .before .has-damaged-cell .ensures) (c .enum-told2 .given .1) _ (c .before .before .before .before .pre .1) (c .before .before .before .before .pre .2)
 
 returns-3 : tie.Need-returns-3
-returns-3 c = fine-never (c .before .before .before .before .args .p) (c .before .before .before .before .args .b) (now (c .before .before .before .before .args .cells)) (c .before .before .before .before .pre) (c .before .before .has-damaged-cell .result) (c .before .before .has-damaged-cell .ensures) (c .enum-told3 .given .1)
+returns-3 c = fine-never (c .before .before .before .before .args .p) (c .before .before .before .before .args .b) (now (c .before .before .before .before .args .cells)) (c .before .before .before .before .pre .0) (c .before .before .has-damaged-cell .result) (c .before .before .has-damaged-cell .ensures) (c .enum-told3 .given .1)
 
 pub is-fine-spec : {M : Type 1} → statement M
 is-fine-spec =
@@ -36,7 +33,6 @@ is-fine-spec =
     has-damaged-cell-requires
     enum-told
     enum-told-2
-    is-undamaged-requires
     enum-told-3
     returns
     returns-2

@@ -1,8 +1,8 @@
 -- `advance::size_of` meets its contract. The loop's invariant: the size of what is left, added to what was measured, is the size of all. The measure is the number of children left. Assumes nothing.
 use mathlib.Core.Path.{_≡_, refl, sym, ap, _∙_}
 use native.Mathlib.Omega.{arith}
-use Prim.Native.Nat.{ℕ, _+_, _-_, _*_, _≤_}
-use lib.ListN.{length, drop}
+use Prim.Native.Nat.{_-_, _*_, _≤_}
+use lib.ListN.{drop}
 use Rattle.implicit.specs.ByChild.{sizedAll}
 use Rattle.implicit.specs.declared.advance.Size.{Size}
 use Rattle.implicit.proofs.StepLawsCode.{sized-on, sized-end}

@@ -1,24 +1,18 @@
 -- `advance::take_front` meets its contract. Assumes nothing.
 use denote.Ref.{now}
-use Rattle.implicit.proofs.StepLawsCode.{open-damaged, open-few, open-empty, open-at}
+use Rattle.implicit.proofs.StepLawsCode.{open-few, open-empty, open-at}
 use borrow.Author.Needs.{needs}
 use Rattle.implicit.proofs.advance.take_front.Statement.{statement}
 use Rattle.implicit.proofs.advance.take_front.Tie as tie
 
-is-sound-requires : tie.Need-is-sound-requires
-is-sound-requires c κs = search needs
-
-returns : tie.Need-returns
-returns c = open-damaged (c .before .before .before .args .s) (now (c .before .before .before .args .ring)) (c .before .before .before .args .cells) (c .before .is-sound .result) (c .before .is-sound .ensures) (c .if1 .taken)
-
 pixel-count-requires : tie.Need-pixel-count-requires
 pixel-count-requires c κs = search needs
 
-returns-2 : tie.Need-returns-2
-returns-2 c = open-few (c .before .before .before .before .before .args .s) (now (c .before .before .before .before .before .args .ring)) (c .before .before .before .before .before .args .cells) (c .before .before .before .is-sound .result) (c .before .before .before .is-sound .ensures) (c .before .before .if1 .left) (c .before .pixel-count .result) (c .before .pixel-count .ensures) (c .if2 .taken)
+returns : tie.Need-returns
+returns c = open-few (c .before .before .before .args .s) (now (c .before .before .before .args .ring)) (c .before .before .before .args .cells) (c .before .pixel-count .result) (c .before .pixel-count .ensures) (c .if1 .taken)
 
-returns-3 : tie.Need-returns-3
-returns-3 c = open-empty (c .before .before .before .before .before .before .before .args .s) (now (c .before .before .before .before .before .before .before .args .ring)) (c .before .before .before .before .before .before .before .args .cells) (c .before .before .before .before .before .is-sound .result) (c .before .before .before .before .before .is-sound .ensures) (c .before .before .before .before .if1 .left) (c .before .before .before .pixel-count .result) (c .before .before .before .pixel-count .ensures) (c .before .before .if2 .left) (c .if3 .taken)
+returns-2 : tie.Need-returns-2
+returns-2 c = open-empty (c .before .before .before .before .before .args .s) (now (c .before .before .before .before .before .args .ring)) (c .before .before .before .before .before .args .cells) (c .before .before .before .pixel-count .result) (c .before .before .before .pixel-count .ensures) (c .before .before .if1 .left) (c .if2 .taken)
 
 take-requires : tie.Need-take-requires
 take-requires c κs = search needs
@@ -32,28 +26,26 @@ enum-told c = search needs
 enum-told-2 : tie.Need-enum-told-2
 enum-told-2 c = search needs
 
+returns-3 : tie.Need-returns-3
+returns-3 c = open-at (c .before .before .before .before .before .before .before .before .before .before .before .args .s) (now (c .before .before .before .before .before .before .before .before .before .before .before .args .ring)) (c .before .before .before .before .before .before .before .before .before .before .before .args .cells) (c .before .before .before .before .before .before .before .before .before .pixel-count .result) (c .before .before .before .before .before .before .before .before .before .pixel-count .ensures) (c .before .before .before .before .before .before .before .before .if1 .left) (c .before .before .before .before .before .before .if2 .left) (c .before .before .before .take .result) _ (c .before .before .before .take .ensures) (c .before .block .given .1)
+
 returns-4 : tie.Need-returns-4
-returns-4 c = open-at (c .before .before .before .before .before .before .before .before .before .before .before .before .args .s) (now (c .before .before .before .before .before .before .before .before .before .before .before .before .args .ring)) (c .before .before .before .before .before .before .before .before .before .before .before .before .args .cells) (c .before .before .before .before .before .before .before .before .before .before .is-sound .result) (c .before .before .before .before .before .before .before .before .before .before .is-sound .ensures) (c .before .before .before .before .before .before .before .before .before .if1 .left) (c .before .before .before .before .before .before .before .before .pixel-count .result) (c .before .before .before .before .before .before .before .before .pixel-count .ensures) (c .before .before .before .before .before .before .before .if2 .left) (c .before .before .before .before .before .if3 .left) (c .before .before .before .take .result) _ (c .before .before .before .take .ensures) (c .before .block .given .1)
+returns-4 c = open-at (c .before .before .before .before .before .before .before .before .before .before .args .s) (now (c .before .before .before .before .before .before .before .before .before .before .args .ring)) (c .before .before .before .before .before .before .before .before .before .before .args .cells) (c .before .before .before .before .before .before .before .before .pixel-count .result) (c .before .before .before .before .before .before .before .before .pixel-count .ensures) (c .before .before .before .before .before .before .before .if1 .left) (c .before .before .before .before .before .if2 .left) (c .before .before .take .result) _ (c .before .before .take .ensures) (c .enum-told .given .1)
 
 returns-5 : tie.Need-returns-5
-returns-5 c = open-at (c .before .before .before .before .before .before .before .before .before .before .before .args .s) (now (c .before .before .before .before .before .before .before .before .before .before .before .args .ring)) (c .before .before .before .before .before .before .before .before .before .before .before .args .cells) (c .before .before .before .before .before .before .before .before .before .is-sound .result) (c .before .before .before .before .before .before .before .before .before .is-sound .ensures) (c .before .before .before .before .before .before .before .before .if1 .left) (c .before .before .before .before .before .before .before .pixel-count .result) (c .before .before .before .before .before .before .before .pixel-count .ensures) (c .before .before .before .before .before .before .if2 .left) (c .before .before .before .before .if3 .left) (c .before .before .take .result) _ (c .before .before .take .ensures) (c .enum-told .given .1)
-
-returns-6 : tie.Need-returns-6
-returns-6 c = open-at (c .before .before .before .before .before .before .before .before .before .before .before .args .s) (now (c .before .before .before .before .before .before .before .before .before .before .before .args .ring)) (c .before .before .before .before .before .before .before .before .before .before .before .args .cells) (c .before .before .before .before .before .before .before .before .before .is-sound .result) (c .before .before .before .before .before .before .before .before .before .is-sound .ensures) (c .before .before .before .before .before .before .before .before .if1 .left) (c .before .before .before .before .before .before .before .pixel-count .result) (c .before .before .before .before .before .before .before .pixel-count .ensures) (c .before .before .before .before .before .before .if2 .left) (c .before .before .before .before .if3 .left) (c .before .before .take .result) _ (c .before .before .take .ensures) (c .enum-told2 .given .1)
+returns-5 c = open-at (c .before .before .before .before .before .before .before .before .before .before .args .s) (now (c .before .before .before .before .before .before .before .before .before .before .args .ring)) (c .before .before .before .before .before .before .before .before .before .before .args .cells) (c .before .before .before .before .before .before .before .before .pixel-count .result) (c .before .before .before .before .before .before .before .before .pixel-count .ensures) (c .before .before .before .before .before .before .before .if1 .left) (c .before .before .before .before .before .if2 .left) (c .before .before .take .result) _ (c .before .before .take .ensures) (c .enum-told2 .given .1)
 
 pub take-front-spec : {M : Type 1} → statement M
 take-front-spec =
     tie.close
     (tie.spec
-    is-sound-requires
-    returns
     pixel-count-requires
+    returns
     returns-2
-    returns-3
     take-requires
     enum-known-block
     enum-told
     enum-told-2
+    returns-3
     returns-4
-    returns-5
-    returns-6)
+    returns-5)

@@ -1,6 +1,5 @@
 -- `begin::begin` meets its contract. Assumes nothing.
-use mathlib.Core.Path.{_≡_, ap, _∙_}
-use Prim.Native.Nat.{_≤_}
+use mathlib.Core.Path.{_≡_}
 use native.Mathlib.Omega.{arith}
 use lib.Ieee.{binary64, fits}
 use lib.ListN.{length}

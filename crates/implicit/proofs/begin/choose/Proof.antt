@@ -1,6 +1,5 @@
 -- `begin::choose` meets its contract. Assumes nothing.
 use native.Mathlib.Nat.{mod-lt}
-use native.Mathlib.Omega.{arith}
 use Rattle.implicit.proofs.SetupLawsProduct.{chosen-made}
 use Rattle.implicit.proofs.begin.choose.Statement.{statement}
 use Rattle.implicit.proofs.begin.choose.Tie as tie

@@ -1,5 +1,5 @@
 -- `begin::measure_first` meets its contract: what is used and what is left to count are the whole. The measure is the number of blocks left. Assumes nothing.
-use mathlib.Core.Path.{_≡_, sym, ap, _∙_}
+use mathlib.Core.Path.{ap, _∙_}
 use Prim.Native.Nat.{_-_, _≤_}
 use native.Mathlib.Omega.{arith}
 use lib.Ieee.{binary64, fits}
@@ -8,9 +8,10 @@ use borrow.Author.Needs.{needs}
 use lib.ListN.{length}
 use Rattle.queue.proofs.RoundTrip.{CanQueue}
 use Rattle.queue.proofs.KeptLaws.{settled-is}
+use Rattle.queue.proofs.QueueLaws.{can-code}
 use Rattle.implicit.proofs.SetupLawsFirst.{productList, count-is}
 use Rattle.implicit.proofs.SetupLawsBlocks.{RangesHeld}
-use Rattle.implicit.proofs.SetupLawsWriting.{Measuring, measure-start, measure-again, measure-end, block-here, block-has, product-can, product-bytes, can-code}
+use Rattle.implicit.proofs.SetupLawsWriting.{Measuring, measure-start, measure-again, measure-end, block-here, block-has, product-can, product-bytes}
 use Rattle.implicit.proofs.begin.measure_first.Statement.{statement}
 use Rattle.implicit.proofs.begin.measure_first.Tie as tie
 

@@ -1,5 +1,4 @@
 -- `begin::queue_first` meets its contract: what is left to write from here is what was to write. The measure is the number of blocks left. Assumes nothing.
-use mathlib.Core.Path.{_≡_, ap, _∙_}
 use Prim.Native.Nat.{_-_, _≤_}
 use native.Mathlib.Omega.{arith}
 use lib.Ieee.{binary64, fits}
@@ -10,9 +9,10 @@ use Rattle.queue.specs.Block.{startingLast}
 use Rattle.queue.specs.Queue.{queueCodes}
 use Rattle.queue.proofs.RoundTrip.{CanQueue}
 use Rattle.queue.proofs.KeptLaws.{settled-is}
+use Rattle.queue.proofs.QueueLaws.{can-code}
 use Rattle.implicit.proofs.SetupLawsFirst.{productList, count-is}
 use Rattle.implicit.proofs.SetupLawsBlocks.{RangesHeld}
-use Rattle.implicit.proofs.SetupLawsWriting.{block-here, block-has, product-can, product-bytes, can-code}
+use Rattle.implicit.proofs.SetupLawsWriting.{block-here, block-has, product-can, product-bytes}
 use Rattle.implicit.proofs.SetupLawsQueueing.{Queueing, queue-start, queue-room, queue-fits, queue-again, queue-end}
 use Rattle.implicit.proofs.begin.queue_first.Statement.{statement}
 use Rattle.implicit.proofs.begin.queue_first.Tie as tie

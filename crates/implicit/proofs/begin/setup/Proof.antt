@@ -1,5 +1,5 @@
 -- `begin::setup` meets its contract. Assumes nothing.
-use mathlib.Core.Path.{_≡_, sym, _∙_}
+use mathlib.Core.Path.{sym, _∙_}
 use borrow.Author.Needs.{needs}
 use Rattle.implicit.specs.Setup.{pictureOf}
 use Rattle.implicit.proofs.SetupLawsStart.{answer-ready, ring-ready, cells-ready, answer-refused, ring-refused, cells-refused}

@@ -1,6 +1,6 @@
 -- `begin::start_level` meets its contract: what the tries left find is what all of them find. The measure is the number of tries left. Assumes nothing.
-use mathlib.Core.Path.{_≡_, refl, sym, ap, _∙_}
-use Prim.Native.Nat.{_+_, _-_, _≤_}
+use mathlib.Core.Path.{_≡_, refl, _∙_}
+use Prim.Native.Nat.{_-_, _≤_}
 use native.Mathlib.Omega.{arith}
 use borrow.Author.Needs.{needs}
 use Rattle.implicit.specs.Setup.{leastFrom, startLevel}

@@ -1,12 +1,13 @@
 -- `commit::carry_children` meets its contract. The loop's invariant: carrying out what is left makes what carrying out all makes. The measure is the number of children left. Assumes nothing.
 use mathlib.Core.Path.{_≡_, refl, sym, ap, _∙_}
+use mathlib.Core.Logic.{⊎-elim}
 use native.Mathlib.Omega.{arith}
-use denote.Ref.{now}
-use Prim.Native.Nat.{ℕ, _+_, _-_, _^_, _≤_}
+use Prim.Native.Nat.{_+_, _-_, _≤_}
 use lib.ListN.{length, drop}
+use Rattle.implicit.specs.declared.state.State.{State}
 use Rattle.implicit.specs.Step.{worldOf}
-use Rattle.implicit.specs.ByChild.{carriedAll}
-use Rattle.implicit.proofs.StepLawsCode.{carried-on, carried-end}
+use Rattle.implicit.specs.ByChild.{withCarried, carriedAll}
+use Rattle.implicit.proofs.StepLawsCode.{carried-state, carried-more, carried-on, carried-end}
 use borrow.Author.Needs.{needs}
 use Rattle.implicit.proofs.commit.carry_children.Statement.{statement}
 use Rattle.implicit.proofs.commit.carry_children.Tie as tie
@@ -27,16 +28,27 @@ element-copy-out-e : tie.Need-element-copy-out-e Inv-loop μ-loop
 element-copy-out-e c = search needs
 
 carry-child-requires : tie.Need-carry-child-requires Inv-loop μ-loop
-carry-child-requires c κs = omega (arith, c .before .before .before .before .before .before .before .pre .0, c .before .before .before .before .loop .inv .3, c .before .before .before .loop-test .taken)
+carry-child-requires c κs = search needs
+
+enum-known-last : tie.Need-enum-known-last Inv-loop μ-loop
+enum-known-last c = search needs
+
+add-next : tie.Need-add-next Inv-loop μ-loop
+add-next c = omega (arith, c .before .before .before .before .before .before .before .before .before .before .before .before .before .before .before .before .pre .0, c .before .before .before .before .before .before .before .before .before .before .before .before .before .loop .inv .3, c .before .before .before .before .before .before .before .before .before .before .before .before .loop-test .taken)
+
+enum-told : tie.Need-enum-told Inv-loop μ-loop
+enum-told c = search needs
 
 add-i : tie.Need-add-i Inv-loop μ-loop
 add-i c = search needs
 
 loop-less : tie.Need-loop-less Inv-loop μ-loop
-loop-less c = omega (arith, c .before .before .before .before .before .before .before .before .loop-test .taken)
+loop-less c = omega (arith, c .before .before .before .before .before .before .before .before .before .loop-test .taken)
 
 loop-again : tie.Need-loop-again Inv-loop μ-loop
-loop-again c = (omega (arith, c .before .before .before .before .before .before .before .before .loop-test .taken), c .before .before .before .before .carry-child .kept .1 .0 ∙ c .before .before .before .before .before .before .before .before .before .loop .inv .1, c .before .before .before .before .carry-child .kept .1 .1 .0 ∙ c .before .before .before .before .before .before .before .before .before .loop .inv .2, omega (arith, c .before .before .before .before .before .before .before .before .before .loop .inv .3, c .before .before .before .before .carry-child .ensures .1), carried-on _ (c .before .before .before .before .before .before .before .before .before .loop .i) (c .before .before .before .before .before .before .before .before .before .before .before .before .args .from) (c .before .before .before .before .before .before .before .before .before .before .before .before .args .parent) (worldOf (c .before .before .before .before .before .before .before .before .before .loop .next) (c .before .before .before .before .before .before .before .before .before .loop .ring) (c .before .before .before .before .before .before .before .before .before .loop .cells)) _ _ (omega (arith, c .before .before .before .before .before .before .before .before .before .before .before .before .pre .1, c .before .before .before .before .before .before .before .before .loop-test .taken)) (c .before .before .before .before .carry-child .ensures .0) ∙ c .before .before .before .before .before .before .before .before .before .loop .inv .4)
+loop-again c =
+    let n : c .match .next ≡ withCarried (c .before .before .before .before .before .before .before .before .before .before .loop .next) (c .before .before .before .before .before .carry-child .result) = ⊎-elim (λ w. carried-state (c .before .before .before .before .before .before .before .before .before .before .loop .next) (c .match .next) (c .before .before .before .before .before .carry-child .result) _ (w .1 .given .1) (w .4)) (λ w. carried-state (c .before .before .before .before .before .before .before .before .before .before .loop .next) (c .match .next) (c .before .before .before .before .before .carry-child .result) _ (w .1 .given .1) (w .2)) (c .match .came) in
+    (omega (arith, c .before .before .before .before .before .before .before .before .before .loop-test .taken), c .before .before .before .before .before .carry-child .kept .1 .0 ∙ c .before .before .before .before .before .before .before .before .before .before .loop .inv .1, c .before .before .before .before .before .carry-child .kept .1 .1 .0 ∙ c .before .before .before .before .before .before .before .before .before .before .loop .inv .2, omega (arith, c .before .before .before .before .before .before .before .before .before .before .loop .inv .3, carried-more (c .before .before .before .before .before .before .before .before .before .before .loop .next) (c .match .next) (c .before .before .before .before .before .carry-child .result) n), carried-on _ (c .before .before .before .before .before .before .before .before .before .before .loop .i) (c .before .before .before .before .before .before .before .before .before .before .before .before .before .args .from) (c .before .before .before .before .before .before .before .before .before .before .before .before .before .args .parent) (worldOf (c .before .before .before .before .before .before .before .before .before .before .loop .next) (c .before .before .before .before .before .before .before .before .before .before .loop .ring) (c .before .before .before .before .before .before .before .before .before .before .loop .cells)) _ _ (omega (arith, c .before .before .before .before .before .before .before .before .before .before .before .before .before .pre .1, c .before .before .before .before .before .before .before .before .before .loop-test .taken)) (ap (λ (s : State). worldOf s (c .before .before .before .before .before .carry-child .last .1 .0) (c .before .before .before .before .before .carry-child .last .1 .1 .0)) n ∙ c .before .before .before .before .before .carry-child .ensures) ∙ c .before .before .before .before .before .before .before .before .before .before .loop .inv .4)
 
 same-length : tie.Need-same-length Inv-loop μ-loop
 same-length c = omega arith
@@ -57,6 +69,9 @@ carry-children-spec =
     mul-e
     element-copy-out-e
     carry-child-requires
+    enum-known-last
+    add-next
+    enum-told
     add-i
     loop-less
     loop-again

@@ -1,9 +1,5 @@
 -- `commit::commit` meets its contract. Assumes nothing.
-use mathlib.Core.Path.{_≡_, refl, sym, ap, _∙_}
-use native.Mathlib.Omega.{arith}
 use denote.Ref.{now}
-use Rattle.implicit.specs.Step.{worldOf}
-use Rattle.implicit.specs.ByChild.{carriedAll}
 use Rattle.implicit.proofs.StepLawsCode.{committed-by}
 use borrow.Author.Needs.{needs}
 use Rattle.implicit.proofs.commit.commit.Statement.{statement}

@@ -1,5 +1,5 @@
 -- `commit::mark_child` meets its contract. Assumes nothing.
-use mathlib.Core.Path.{_≡_, refl, sym, ap, _∙_}
+use mathlib.Core.Path.{sym, ap, _∙_}
 use denote.Ref.{now}
 use Rattle.implicit.specs.ByChild.{markedBy}
 use borrow.Author.Needs.{needs}
@@ -28,7 +28,7 @@ same-length : tie.Need-same-length
 same-length c = search needs
 
 returns-2 : tie.Need-returns-2
-returns-2 c = c .before .before .paint-block .ensures ∙ ap (markedBy (c .before .before .before .before .before .before .before .args .p) (now (c .before .before .before .before .before .before .before .args .cells)) (c .before .before .before .before .before .before .before .args .e .block)) (sym (c .before .before .before .before .enum-told2 .given .1))
+returns-2 c = c .before .before .paint-block .ensures ∙ ap (markedBy (c .before .before .before .before .before .before .before .before .args .p) (now (c .before .before .before .before .before .before .before .before .args .cells)) (c .before .before .before .before .before .before .before .before .args .e .block)) (sym (c .before .before .before .before .before .enum-told2 .given .1))
 
 returns-3 : tie.Need-returns-3
 returns-3 c = ap (markedBy (c .before .before .before .args .p) (now (c .before .before .before .args .cells)) (c .before .before .before .args .e .block)) (sym (c .enum-told3 .given .1))

@@ -1,8 +1,7 @@
 -- `commit::mark_children` meets its contract. The loop's invariant: marking what is left makes what marking all makes. The measure is the number of children left. Assumes nothing.
-use mathlib.Core.Path.{_≡_, refl, sym, ap, _∙_}
+use mathlib.Core.Path.{_≡_, refl, sym, _∙_}
 use native.Mathlib.Omega.{arith}
-use denote.Ref.{now}
-use Prim.Native.Nat.{ℕ, _+_, _-_, _≤_}
+use Prim.Native.Nat.{_-_, _≤_}
 use lib.ListN.{length, drop}
 use Rattle.implicit.specs.ByChild.{markedAll}
 use Rattle.implicit.proofs.StepLawsCode.{marked-on, marked-end}

@@ -1,5 +1,5 @@
 -- `commit::paint_block` meets its contract. Assumes nothing.
-use mathlib.Core.Path.{_≡_, refl, sym, ap, _∙_}
+use mathlib.Core.Path.{ap, _∙_}
 use denote.Ref.{now}
 use Rattle.image.specs.declared.PixelRange.{PixelRange}
 use Rattle.image.specs.Painting.{paintedCells}

@@ -1,6 +1,6 @@
 -- `go::run` meets its contract. Assumes nothing.
 use denote.Ref.{now}
-use Rattle.implicit.proofs.RunLaws.{run-damaged, run-short, run-enough, run-done}
+use Rattle.implicit.proofs.RunLaws.{run-damaged, run-short, run-sound, run-enough, run-done}
 use borrow.Author.Needs.{needs}
 use Rattle.implicit.proofs.go.run.Statement.{statement}
 use Rattle.implicit.proofs.go.run.Tie as tie
@@ -18,7 +18,7 @@ returns-2 : tie.Need-returns-2
 returns-2 c = run-short (c .before .before .before .before .before .before .before .args .budget) (c .before .before .before .before .before .before .before .args .s) (now (c .before .before .before .before .before .before .before .args .ring)) (now (c .before .before .before .before .before .before .before .args .cells)) (now (c .before .before .before .before .before .before .before .args .tape)) (c .before .before .before .is-sound .result) (c .before .before .before .is-sound .ensures) (c .before .before .if1 .left) (c .before .pixel-count .result) (c .before .pixel-count .ensures) (c .if2 .taken)
 
 take-steps-requires : tie.Need-take-steps-requires
-take-steps-requires c κs = run-enough (c .before .before .before .before .before .before .before .before .before .args .budget) (c .before .before .before .before .before .before .before .before .before .args .s) (now (c .before .before .before .before .before .before .before .before .before .args .ring)) (now (c .before .before .before .before .before .before .before .before .before .args .cells)) (now (c .before .before .before .before .before .before .before .before .before .args .tape)) (c .before .before .before .before .before .is-sound .result) (c .before .before .before .before .before .is-sound .ensures) (c .before .before .before .before .if1 .left) (c .before .before .before .pixel-count .result) (c .before .before .before .pixel-count .ensures) (c .before .before .if2 .left)
+take-steps-requires c κs = (run-enough (c .before .before .before .before .before .before .before .before .before .args .budget) (c .before .before .before .before .before .before .before .before .before .args .s) (now (c .before .before .before .before .before .before .before .before .before .args .ring)) (now (c .before .before .before .before .before .before .before .before .before .args .cells)) (now (c .before .before .before .before .before .before .before .before .before .args .tape)) (c .before .before .before .before .before .is-sound .result) (c .before .before .before .before .before .is-sound .ensures) (c .before .before .before .before .if1 .left) (c .before .before .before .pixel-count .result) (c .before .before .before .pixel-count .ensures) (c .before .before .if2 .left), run-sound (c .before .before .before .before .before .before .before .before .before .args .budget) (c .before .before .before .before .before .before .before .before .before .args .s) (now (c .before .before .before .before .before .before .before .before .before .args .ring)) (now (c .before .before .before .before .before .before .before .before .before .args .cells)) (now (c .before .before .before .before .before .before .before .before .before .args .tape)) (c .before .before .before .before .before .is-sound .result) (c .before .before .before .before .before .is-sound .ensures) (c .before .before .before .before .if1 .left) (c .before .before .before .pixel-count .result) (c .before .before .before .pixel-count .ensures))
 
 report-requires : tie.Need-report-requires
 report-requires c κs = search needs

@@ -1,34 +1,33 @@
 -- `go::take_steps` meets its contract. The loop's invariant: what is left to do, with what was counted, is the run. The measure: the steps left in the budget, and one while the run goes on. Assumes nothing.
-use mathlib.Core.Path.{_≡_, refl, sym, ap, _∙_}
-use native.Mathlib.Omega.{arith}
+use mathlib.Core.Path.{_≡_, refl, _∙_}
 use denote.Ref.{now}
 use mathlib.Core.Bool.{true, cond}
-use Prim.Native.Nat.{ℕ, _+_, _-_}
+use Prim.Native.Nat.{_+_, _-_}
 use lib.Dec.{leb}
 use lib.ListN.{length}
 use Rattle.implicit.specs.Record.{pixelCount}
-use Rattle.implicit.specs.ByStep.{wholeRun, Bounded}
-use Rattle.implicit.proofs.RunLaws.{turn-whole, turn-less, turn-bounded, turn-enough, turn-stays, run-start, start-bounded, run-end}
+use Rattle.implicit.specs.ByStep.{SoundByUse, Bounded}
+use Rattle.implicit.proofs.RunLaws.{wholeRun, turn-whole, turn-less, turn-bounded, turn-enough, turn-stays, run-start, start-bounded, run-end}
 use Rattle.implicit.proofs.go.take_steps.Statement.{statement}
 use Rattle.implicit.proofs.go.take_steps.Tie as tie
 
 abbrev Inv-loop : tie.InvT-loop
-Inv-loop ring₀ cells₀ tape budget p₀ ring cells p = Bounded budget tape p × (length ring ≡ length ring₀) × (length cells ≡ length cells₀) × (leb (pixelCount (p .state .picture)) (length cells) ≡ true) × (wholeRun budget p ring cells tape ≡ wholeRun budget p₀ ring₀ cells₀ tape)
+Inv-loop ring₀ cells₀ tape budget p₀ ring cells p = Bounded budget tape p × (length ring ≡ length ring₀) × (length cells ≡ length cells₀) × (leb (pixelCount (p .state .picture)) (length cells) ≡ true) × (wholeRun budget p ring cells tape ≡ wholeRun budget p₀ ring₀ cells₀ tape) × SoundByUse (length ring) (p .state)
 
 abbrev μ-loop : tie.MeasureT-loop
 μ-loop ring₀ cells₀ tape budget p₀ ring cells p = budget - p .steps + cond (p .going) 1 0
 
 loop-holds : tie.Need-loop-holds Inv-loop μ-loop
-loop-holds c = (start-bounded (c .before .before .before .args .budget) (c .before .before .before .args .s) (now (c .before .before .before .args .tape)), refl, refl, c .before .before .before .pre, refl)
+loop-holds c = (start-bounded (c .before .before .before .args .budget) (c .before .before .before .args .s) (now (c .before .before .before .args .tape)), refl, refl, c .before .before .before .pre .0, refl, λ u. c .before .before .before .pre .1)
 
 go-on-requires : tie.Need-go-on-requires Inv-loop μ-loop
-go-on-requires c κs = (c .before .before .before .loop .inv .0, c .before .before .before .loop .inv .3)
+go-on-requires c κs = (c .before .before .before .loop .inv .0, c .before .before .before .loop .inv .3, c .before .before .before .loop .inv .5)
 
 loop-less : tie.Need-loop-less Inv-loop μ-loop
 loop-less c = turn-less (c .before .before .before .before .before .before .before .before .before .before .before .before .args .budget) (c .before .before .before .before .before .before .before .before .loop .p) (c .before .before .before .before .before .before .before .before .loop .ring) (c .before .before .before .before .before .before .before .before .loop .cells) (now (c .before .before .before .before .before .before .before .before .before .before .before .before .args .tape)) (c .before .before .before .before .before .before .before .loop-test .taken) (c .before .before .before .before .go-on .result) (c .before .before .before .before .go-on .last .1 .0) (c .before .before .before .before .go-on .last .1 .1 .0) (c .before .before .before .before .go-on .ensures .0) (c .before .before .before .before .go-on .ensures .1) (c .before .before .before .before .before .before .before .before .loop .inv .0 .steps)
 
 loop-again : tie.Need-loop-again Inv-loop μ-loop
-loop-again c = (turn-bounded (c .before .before .before .before .before .before .before .before .before .before .before .before .args .budget) (c .before .before .before .before .before .before .before .before .loop .p) (c .before .before .before .before .before .before .before .before .loop .ring) (c .before .before .before .before .before .before .before .before .loop .cells) (now (c .before .before .before .before .before .before .before .before .before .before .before .before .args .tape)) (c .before .before .before .before .before .before .before .loop-test .taken) (c .before .before .before .before .go-on .result) (c .before .before .before .before .go-on .last .1 .0) (c .before .before .before .before .go-on .last .1 .1 .0) (c .before .before .before .before .go-on .ensures .0) (c .before .before .before .before .go-on .ensures .1) (c .before .before .before .before .before .before .before .before .loop .inv .0), turn-stays (c .before .before .before .before .before .before .before .before .before .before .before .before .args .budget) (c .before .before .before .before .before .before .before .before .loop .p) (c .before .before .before .before .before .before .before .before .loop .ring) (c .before .before .before .before .before .before .before .before .loop .cells) (now (c .before .before .before .before .before .before .before .before .before .before .before .before .args .tape)) (c .before .before .before .before .before .before .before .loop-test .taken) (c .before .before .before .before .go-on .result) (c .before .before .before .before .go-on .last .1 .0) (c .before .before .before .before .go-on .last .1 .1 .0) (c .before .before .before .before .go-on .ensures .0) (c .before .before .before .before .go-on .ensures .1) .ring ∙ c .before .before .before .before .before .before .before .before .loop .inv .1, turn-stays (c .before .before .before .before .before .before .before .before .before .before .before .before .args .budget) (c .before .before .before .before .before .before .before .before .loop .p) (c .before .before .before .before .before .before .before .before .loop .ring) (c .before .before .before .before .before .before .before .before .loop .cells) (now (c .before .before .before .before .before .before .before .before .before .before .before .before .args .tape)) (c .before .before .before .before .before .before .before .loop-test .taken) (c .before .before .before .before .go-on .result) (c .before .before .before .before .go-on .last .1 .0) (c .before .before .before .before .go-on .last .1 .1 .0) (c .before .before .before .before .go-on .ensures .0) (c .before .before .before .before .go-on .ensures .1) .cells ∙ c .before .before .before .before .before .before .before .before .loop .inv .2, turn-enough (c .before .before .before .before .before .before .before .before .before .before .before .before .args .budget) (c .before .before .before .before .before .before .before .before .loop .p) (c .before .before .before .before .before .before .before .before .loop .ring) (c .before .before .before .before .before .before .before .before .loop .cells) (now (c .before .before .before .before .before .before .before .before .before .before .before .before .args .tape)) (c .before .before .before .before .before .before .before .loop-test .taken) (c .before .before .before .before .go-on .result) (c .before .before .before .before .go-on .last .1 .0) (c .before .before .before .before .go-on .last .1 .1 .0) (c .before .before .before .before .go-on .ensures .0) (c .before .before .before .before .go-on .ensures .1) (c .before .before .before .before .before .before .before .before .loop .inv .3), turn-whole (c .before .before .before .before .before .before .before .before .before .before .before .before .args .budget) (c .before .before .before .before .before .before .before .before .loop .p) (c .before .before .before .before .before .before .before .before .loop .ring) (c .before .before .before .before .before .before .before .before .loop .cells) (now (c .before .before .before .before .before .before .before .before .before .before .before .before .args .tape)) (c .before .before .before .before .before .before .before .loop-test .taken) (c .before .before .before .before .go-on .result) (c .before .before .before .before .go-on .last .1 .0) (c .before .before .before .before .go-on .last .1 .1 .0) (c .before .before .before .before .go-on .ensures .0) (c .before .before .before .before .go-on .ensures .1) ∙ c .before .before .before .before .before .before .before .before .loop .inv .4)
+loop-again c = (turn-bounded (c .before .before .before .before .before .before .before .before .before .before .before .before .args .budget) (c .before .before .before .before .before .before .before .before .loop .p) (c .before .before .before .before .before .before .before .before .loop .ring) (c .before .before .before .before .before .before .before .before .loop .cells) (now (c .before .before .before .before .before .before .before .before .before .before .before .before .args .tape)) (c .before .before .before .before .before .before .before .loop-test .taken) (c .before .before .before .before .go-on .result) (c .before .before .before .before .go-on .last .1 .0) (c .before .before .before .before .go-on .last .1 .1 .0) (c .before .before .before .before .go-on .ensures .0) (c .before .before .before .before .go-on .ensures .1) (c .before .before .before .before .before .before .before .before .loop .inv .0), turn-stays (c .before .before .before .before .before .before .before .before .before .before .before .before .args .budget) (c .before .before .before .before .before .before .before .before .loop .p) (c .before .before .before .before .before .before .before .before .loop .ring) (c .before .before .before .before .before .before .before .before .loop .cells) (now (c .before .before .before .before .before .before .before .before .before .before .before .before .args .tape)) (c .before .before .before .before .before .before .before .loop-test .taken) (c .before .before .before .before .go-on .result) (c .before .before .before .before .go-on .last .1 .0) (c .before .before .before .before .go-on .last .1 .1 .0) (c .before .before .before .before .go-on .ensures .0) (c .before .before .before .before .go-on .ensures .1) .ring ∙ c .before .before .before .before .before .before .before .before .loop .inv .1, turn-stays (c .before .before .before .before .before .before .before .before .before .before .before .before .args .budget) (c .before .before .before .before .before .before .before .before .loop .p) (c .before .before .before .before .before .before .before .before .loop .ring) (c .before .before .before .before .before .before .before .before .loop .cells) (now (c .before .before .before .before .before .before .before .before .before .before .before .before .args .tape)) (c .before .before .before .before .before .before .before .loop-test .taken) (c .before .before .before .before .go-on .result) (c .before .before .before .before .go-on .last .1 .0) (c .before .before .before .before .go-on .last .1 .1 .0) (c .before .before .before .before .go-on .ensures .0) (c .before .before .before .before .go-on .ensures .1) .cells ∙ c .before .before .before .before .before .before .before .before .loop .inv .2, turn-enough (c .before .before .before .before .before .before .before .before .before .before .before .before .args .budget) (c .before .before .before .before .before .before .before .before .loop .p) (c .before .before .before .before .before .before .before .before .loop .ring) (c .before .before .before .before .before .before .before .before .loop .cells) (now (c .before .before .before .before .before .before .before .before .before .before .before .before .args .tape)) (c .before .before .before .before .before .before .before .loop-test .taken) (c .before .before .before .before .go-on .result) (c .before .before .before .before .go-on .last .1 .0) (c .before .before .before .before .go-on .last .1 .1 .0) (c .before .before .before .before .go-on .ensures .0) (c .before .before .before .before .go-on .ensures .1) (c .before .before .before .before .before .before .before .before .loop .inv .3), turn-whole (c .before .before .before .before .before .before .before .before .before .before .before .before .args .budget) (c .before .before .before .before .before .before .before .before .loop .p) (c .before .before .before .before .before .before .before .before .loop .ring) (c .before .before .before .before .before .before .before .before .loop .cells) (now (c .before .before .before .before .before .before .before .before .before .before .before .before .args .tape)) (c .before .before .before .before .before .before .before .loop-test .taken) (c .before .before .before .before .go-on .result) (c .before .before .before .before .go-on .last .1 .0) (c .before .before .before .before .go-on .last .1 .1 .0) (c .before .before .before .before .go-on .ensures .0) (c .before .before .before .before .go-on .ensures .1) ∙ c .before .before .before .before .before .before .before .before .loop .inv .4, c .before .before .before .before .go-on .ensures .2)
 
 same-length : tie.Need-same-length Inv-loop μ-loop
 same-length c = c .before .loop .inv .1

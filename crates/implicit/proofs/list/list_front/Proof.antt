@@ -1,5 +1,5 @@
 -- `list::list_front` meets its contract. Assumes nothing.
-use mathlib.Core.Path.{_≡_, refl, sym, ap, _∙_}
+use mathlib.Core.Path.{sym, ap, _∙_}
 use Rattle.implicit.specs.Listing.{listedFrom}
 use borrow.Author.Needs.{needs}
 use Rattle.implicit.proofs.list.list_front.Statement.{statement}
