@@ -21,10 +21,10 @@ use Rattle.image.proofs.PaintLaws.{painted-length}
 use Rattle.image.proofs.BlockLaws.{painted-pixel}
 use Rattle.queue.specs.declared.Block.{Block}
 use Rattle.decide.specs.declared.Picture.{Picture}
-use Rattle.decide.specs.Plan.{paintedUnder, cellsAfter}
-use Rattle.decide.proofs.Each.{Each}
-use Rattle.decide.proofs.CoverLaws.{covers}
-use Rattle.decide.proofs.EventLaws.{EachEvent}
+use Rattle.plan.specs.Plan.{paintedUnder, cellsAfter}
+use Rattle.plan.proofs.Each.{Each}
+use Rattle.plan.proofs.CoverLaws.{covers}
+use Rattle.plan.proofs.EventLaws.{EachEvent}
 use Rattle.promises.specs.Chart.{Pixel, coversIn, standing, standingAt}
 use Rattle.promises.proofs.Covering.{Level, covers-as}
 use Rattle.promises.proofs.Standings.{mark-as, name-as, give-up-as}

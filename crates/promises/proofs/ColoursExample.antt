@@ -1,12 +1,11 @@
 -- What the colours say of document 01's first sheet: asked where x is at most half a pixel, with exact positions, its answers 80 00 are right; so its
 -- white pixel holds no such point, and its black one does. Assumes nothing.
 use mathlib.Core.Path.{_≡_, refl}
-use mathlib.Core.Bool.{_&&_, false≢true}
+use mathlib.Core.Bool.{_&&_}
 use mathlib.Core.List.{[], _∷_}
 use Prim.Native.Nat.{ℕ, _*_, _≤_}
 use native.Mathlib.Omega.{arith}
 use lib.Dec.{T, leb, ltb, lit<}
-use lib.IntN.{pos}
 use borrow.Author.Tests.{ltb-true}
 use Rattle.base.proofs.Test.{T→≡, and-left, and-right}
 use Rattle.theory.specs.Lists.{Every}
@@ -30,15 +29,15 @@ use Rattle.queue.specs.Queue.{taken, queueOf}
 use Rattle.decide.specs.Damage.{legalPicture, undamaged}
 use Rattle.decide.specs.Children.{quartersOf, keptInside, childrenXY, childrenOf}
 use Rattle.decide.specs.Verdict.{toldOutcome}
-use Rattle.decide.specs.Plan.{allTrue, outcomes, openCount}
+use Rattle.plan.specs.Plan.{allTrue, outcomes, openCount}
 use Rattle.queue.specs.declared.Block.{Block}
-use Rattle.queue.specs.declared.directions.Direction.the-variants as D
 use Rattle.queue.specs.Block.{wholeLine}
 use Rattle.promises.specs.Chart.{Pixel, coversIn, queuedBlocks}
 use Rattle.promises.specs.Turns.{saidBy, becomes, turnsWith, turnsOf, turnsTaking, EveryAnswer}
-use Rattle.promises.specs.Mixes.{Mix, LiesIn, questionOf}
-use Rattle.promises.proofs.Example.{sheet, first, begun, stepped, at, left-true, right-false}
-use Rattle.promises.proofs.MixesExact.{ratioOf, exactly}
+use Rattle.promises.specs.Mixes.{Mix, questionOf}
+use Rattle.promises.proofs.Example.{sheet, first, begun, second, stepped, at, left-true, right-false}
+use Rattle.promises.proofs.MixesExact.{exactly}
+use Rattle.promises.proofs.Claims.{corner, corner-given}
 use Rattle.promises.proofs.Promises.{white-means-no, true-means-yes}
 
 -- at most half a pixel from the left edge
@@ -77,27 +76,9 @@ answers-right = (tt, rw turns-are ((λ looked e. (let z : _≡_ {A = ℕ} 0 1 = 
 
 -- SO THE WHITE PIXEL HOLDS NONE
 pub white : ¬ HasSolution asked (at 1 (lit< tt))
-white = white-means-no exactly Near sheet begun stepped answers-right (at 1 (lit< tt)) right-false
+white = white-means-no exactly Near sheet begun 1 second stepped answers-right (at 1 (lit< tt)) right-false
 
 -- the left one covers one pixel, and the picture's lower left corner lies in it
-corner : Mix exactly
-corner = record {
-  x = record { num = 0; den = 1; den-pos = lit< tt };
-  y = record { num = 0; den = 1; den-pos = lit< tt };
-  m = pos 0;
-  n = pos 0;
-  theta = pos 0;
-  t = ratioOf (pos 0);
-}
-
-corner-given : asked .Given corner
-unfolding LiesIn
-corner-given D.XY e = tt
-corner-given D.M e = absurd (false≢true e)
-corner-given D.N e = absurd (false≢true e)
-corner-given D.Theta e = absurd (false≢true e)
-corner-given D.T e = absurd (false≢true e)
-
 left-first : (q : Pixel (sheet .picture)) → T (coversIn (sheet .picture) (child 0) q) → q .x ≡ 0
 unfolding coversPixel coversAlong beginsIn
 left-first q c =

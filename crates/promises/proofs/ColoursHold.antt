@@ -14,12 +14,13 @@ use Rattle.image.specs.declared.Reading.the-variants as R
 use Rattle.image.specs.Cell.{meanings}
 use Rattle.queue.specs.declared.Block.{Block}
 use Rattle.decide.specs.declared.Picture.{Picture}
-use Rattle.decide.proofs.ChildLaws.{Fine}
+use Rattle.plan.proofs.ChildLaws.{Fine}
 use Rattle.implicit.specs.Step.{World}
 use Rattle.promises.specs.Chart.{Pixel, coversIn, queuedBlocks, snapshotOf}
 use Rattle.promises.specs.Steps.{Asked, BegunAs, Steps, no-steps, then-step, readsIn, StandsGivenUp}
 use Rattle.promises.specs.Turns.{turnsOf, turnsTaking, EveryAnswer}
 use Rattle.promises.specs.Mixes.{Measures, Mix, questionOf}
+use Rattle.promises.specs.Sentences.{WhiteMeansNo}
 use Rattle.promises.proofs.Invariant.{Keeps, keeps-queue}
 use Rattle.promises.proofs.Linked.{Reached, Linked, linked-events, begun-passed, begun-reached, begun-accepted, begun-queue, steps-reached, step-linked, in-theory}
 use Rattle.promises.proofs.Demand3.{reads-both, stands}
@@ -78,9 +79,8 @@ module _ (M : Measures) (Solves : Mix M → Type 0) (a : Asked) {w₀ : World} (
   -- ---- the colours
 
   -- a pixel that reads False holds no solution
-  pub white-none : {n : ℕ} {w : World} (r : Steps n w₀ w) → EveryAnswer p (FalseRight (coversIn p) Q) r
-      → (q : Pixel p) → readsIn p w q ≡ R.False → ¬ HasSolution Q q
-  white-none {w = w} r right q e =
+  pub white-none : WhiteMeansNo M Solves a w₀
+  white-none n w r right q e =
       let h = begun-reached a w₀ z in
       Theory.white-means-no (coversIn p) (cuttingOf p) Q false (real-cutting M p (a .ranges) Solves) (begun-accepted a w₀ z) holds-all (in-theory p h r) (every-judged p h r)
       (answers-turns p h (FalseRight (coversIn p) Q) r right) q (reads-both p w q readsFalse .0 e)

@@ -8,8 +8,8 @@ use mathlib.Core.List.{List, [], _∷_}
 use Rattle.coordinate.specs.Axis.{pixel, covers1}
 use Rattle.queue.specs.declared.Block.{Block}
 use Rattle.decide.specs.declared.Picture.{Picture}
-use Rattle.decide.proofs.CoverLaws.{covers, Narrower}
-use Rattle.decide.proofs.EventLaws.{EachEvent}
+use Rattle.plan.proofs.CoverLaws.{covers, Narrower}
+use Rattle.plan.proofs.EventLaws.{EachEvent}
 use Rattle.promises.specs.Chart.{Pixel, coversIn}
 
 -- both coordinates of a block have one level

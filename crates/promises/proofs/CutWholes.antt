@@ -2,7 +2,7 @@
 -- over any number U of units to one. Assumes nothing.
 use mathlib.Core.Path.{_≡_, refl, sym, ap, _∙_}
 use mathlib.Core.Bool.{Bool, true, false, _&&_}
-use Prim.Native.Nat.{ℕ, zero, suc, _+_, _*_, _/_, _^_, _<_}
+use Prim.Native.Nat.{ℕ, zero, suc, _*_, _/_, _^_, _<_}
 use native.Mathlib.Omega.{arith}
 use native.Mathlib.Nat.{zero-mul, suc-mul, mul-one, mul-right-comm, mul-div-cancel, zero-div, eq-of-mul-eq-mul-right}
 use lib.Dec.{T, eqb, eqb→eq}

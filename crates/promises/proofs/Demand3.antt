@@ -3,7 +3,7 @@ use mathlib.Core.Path.{_≡_, sym, ap, _∙_}
 use mathlib.Core.Logic.{_↔_}
 use mathlib.Core.Bool.{false}
 use mathlib.Core.List.{List, _++_}
-use Prim.Native.Nat.{ℕ, suc, _+_, _<_}
+use Prim.Native.Nat.{ℕ, suc, _+_}
 use native.Mathlib.Nat.{zero-add}
 use lib.ListN.{length, drop}
 use Rattle.theory.specs.Cells.{isTrue, givenUp, PixelReading, readsTrue, readsFalse, standingReads}
@@ -16,7 +16,8 @@ use Rattle.queue.specs.declared.Block.{Block}
 use Rattle.decide.specs.declared.Picture.{Picture}
 use Rattle.implicit.specs.Step.{World}
 use Rattle.promises.specs.Chart.{Pixel, coversIn, standingAt, queuedBlocks, snapshotOf}
-use Rattle.promises.specs.Steps.{Asked, BegunAs, Steps, readsIn, NoneQueuedCovers, GivenUpIn, StandsGivenUp, queuedSince}
+use Rattle.promises.specs.Steps.{Asked, BegunAs, Steps, readsIn, NoneQueuedCovers, GivenUpIn, StandsGivenUp}
+use Rattle.promises.specs.Sentences.{FalseRule, FalseStays, LeavesAfter}
 use Rattle.promises.proofs.Standings.{shown, reads-as, shown-one, given-up-exactly}
 use Rattle.promises.proofs.CellsKept.{PixelsWhole}
 use Rattle.promises.proofs.Invariant.{keeps-queue}
@@ -39,10 +40,9 @@ unfolding pixelReads standingReads
 true-reads p w q e = reads-both p w q readsTrue .1 (ap (standingReads (w .state .taken)) e)
 
 module _ (a : Asked) {w₀ : World} (z : BegunAs a w₀) where
-  pub false-exactly : {n : ℕ} {w : World} (r : Steps n w₀ w) (q : Pixel (a .picture))
-      → (readsIn (a .picture) w q ≡ R.False) ↔ ((¬ (readsIn (a .picture) w q ≡ R.True)) × (¬ GivenUpIn (a .picture) r q) × NoneQueuedCovers (a .picture) w q)
+  pub false-exactly : FalseRule a w₀
   unfolding NoneQueuedCovers NoneCovers
-  false-exactly {w = w} r q =
+  false-exactly n w r q =
       let h = begun-reached a w₀ z in
       let is = Theory.false-rule (coversIn (a .picture)) false (begun-accepted a w₀ z) (in-theory (a .picture) h r) q in
       let falses = reads-both (a .picture) w q readsFalse in
@@ -52,17 +52,16 @@ module _ (a : Asked) {w₀ : World} (z : BegunAs a w₀) where
         (λ (not-true, not-up, none). falses .1 (is .1 ((λ t. not-true (trues .1 t)), (λ u. not-up (ups .0 u)), none))),
       )
 
-  pub false-kept : {n m : ℕ} {w w′ : World} → Steps n w₀ w → Steps m w w′ → (q : Pixel (a .picture)) → readsIn (a .picture) w q ≡ R.False → readsIn (a .picture) w′ q ≡ R.False
-  false-kept {w = w} {w′ = w′} r r′ q e =
+  pub false-kept : FalseStays a w₀
+  false-kept n m w w′ r r′ q e =
       let h = begun-reached a w₀ z in
       reads-both (a .picture) w′ q readsFalse .1
       (Theory.false-stays (coversIn (a .picture)) false (begun-accepted a w₀ z) (in-theory (a .picture) h r) (in-theory (a .picture) (steps-reached (a .picture) h r) r′) q
       (reads-both (a .picture) w q readsFalse .0 e))
 
   -- the queue afterwards
-  pub left-behind : (d : ℕ) {n : ℕ} {w w′ : World} → Steps n w₀ w → (r : Steps (suc d) w w′) → d < length (queuedBlocks w)
-      → queuedBlocks w′ ≡ drop (suc d) (queuedBlocks w) ++ queuedSince r
-  left-behind d {w = w} r r′ k =
+  pub left-behind : LeavesAfter a w₀
+  left-behind d n w w′ r r′ k =
       let h = steps-reached (a .picture) (begun-reached a w₀ z) r in
       Theory.leaves (coversIn (a .picture)) false d (in-theory (a .picture) h r′) k
       ∙ ap (λ (l : List Block). drop (suc d) (queuedBlocks w) ++ l) (queued-as (a .picture) h r′)

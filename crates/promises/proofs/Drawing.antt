@@ -9,10 +9,10 @@ use Rattle.image.specs.Range.{cellIndex}
 use Rattle.image.specs.Painting.{pixelCell}
 use Rattle.image.proofs.RangeLaws.{cell-below}
 use Rattle.decide.specs.declared.Picture.{Picture}
-use Rattle.implicit.specs.declared.state.Drawn.the-variants as Drawn
 use Rattle.implicit.specs.Record.{pixelCount}
 use Rattle.implicit.specs.Step.{World}
 use Rattle.implicit.specs.View.{pictureBytes, pictureLeft, pictureAnswer}
+use Rattle.implicit.specs.Answers.{drawnNumber}
 use Rattle.implicit.proofs.ViewLaws.{picture-length, picture-byte}
 use Rattle.promises.specs.Chart.{Pixel}
 use Rattle.promises.specs.Steps.{readsIn}
@@ -26,7 +26,7 @@ byte-at p w e k x y a b = rw (← e) (picture-byte (w .state) (w .cells) x y k (
 
 -- and the buffer's
 pub drawn : (p : Picture) (w : World) → Reached p w → (out : List ℕ) → pixelCount p ≤ length out → (q : Pixel p)
-    → (pictureAnswer (w .state) (w .cells) (length out) ≡ Drawn.Done)
+    → (drawnNumber (pictureAnswer (w .state) (w .cells) (length out)) ≡ 0)
     × (getD (pictureLeft (w .state) (w .cells) out) (cellIndex (p .width) (p .height) (q .x) (q .y)) 0 ≡ byteOf (readsIn p w q))
 unfolding pictureLeft readsIn
 drawn p w h out room q =
@@ -34,7 +34,7 @@ drawn p w h out room q =
     let k : i < p .width * p .height = cell-below (p .width) (p .height) (q .x) (q .y) (q .x-in) (q .y-in) in
     let m : pixelCount (w .state .picture) ≡ p .width * p .height = ap pixelCount (h .picture) in
     let n = picture-length (w .state) (w .cells) (h .keeps .enough) in (
-      picture-drawn w (h .blocks) (h .keeps) (length out) (rw (h .picture) room),
+      ap drawnNumber (picture-drawn w (h .blocks) (h .keeps) (length out) (rw (h .picture) room)),
       List·getD-append (pictureBytes (w .state) (w .cells)) (drop (pixelCount (w .state .picture)) out) 0 i (omega (arith, k, m, n))
           ∙ byte-at p w (h .picture) (h .keeps .enough) (q .x) (q .y) (q .x-in) (q .y-in),
     )

@@ -20,11 +20,11 @@ use Rattle.queue.specs.Directions.{inUse}
 use Rattle.decide.specs.declared.Picture.{Picture}
 use Rattle.decide.specs.Damage.{sound, directionOf}
 use Rattle.decide.specs.Children.{childrenCut, childrenAlong, childrenOf}
-use Rattle.decide.specs.Plan.{outcomes}
-use Rattle.decide.proofs.Each.{Each, each-also}
-use Rattle.decide.proofs.PlaceLaws.{InPlace, cut-in-place}
-use Rattle.decide.proofs.ChildLaws.{direction-in-use}
-use Rattle.decide.proofs.EventLaws.{EachEvent}
+use Rattle.plan.specs.Plan.{outcomes}
+use Rattle.plan.proofs.Each.{Each, each-also}
+use Rattle.plan.proofs.PlaceLaws.{InPlace, cut-in-place}
+use Rattle.plan.proofs.ChildLaws.{direction-in-use}
+use Rattle.plan.proofs.EventLaws.{EachEvent}
 use Rattle.implicit.specs.Setup.{startLevel, firstBlocks}
 use Rattle.implicit.specs.Step.{World}
 use Rattle.implicit.proofs.SetupLawsLevel.{level-width, level-height}

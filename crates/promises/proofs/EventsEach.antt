@@ -12,9 +12,9 @@ use Rattle.decide.specs.declared.turn.Found.the-variants as F
 use Rattle.decide.specs.declared.verdict.Outcome.{Outcome}
 use Rattle.decide.specs.Verdict.{isMarking, isOpen}
 use Rattle.decide.specs.Turn.{searched, startOf, turnedTo, turnedBy, turned}
-use Rattle.decide.specs.Plan.{openCount, markEvents, turnEvent, turnEvents, eventsFor}
-use Rattle.decide.proofs.Each.{Each}
-use Rattle.decide.proofs.EventLaws.{EachEvent}
+use Rattle.plan.specs.Plan.{openCount, markEvents, turnEvent, turnEvents, eventsFor}
+use Rattle.plan.proofs.Each.{Each}
+use Rattle.plan.proofs.EventLaws.{EachEvent}
 
 -- three words for one thing
 pub each-queue : (P : Block → Type 0) (l : List Block) → Each P l → Queue.Every P l

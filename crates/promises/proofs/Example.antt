@@ -26,7 +26,7 @@ use Rattle.queue.specs.Queue.{taken, queueOf, queueCodes, memory}
 use Rattle.decide.specs.Damage.{legalPicture, undamaged, cellDamaged}
 use Rattle.decide.specs.Children.{quartersOf, keptInside, childrenXY, childrenOf}
 use Rattle.decide.specs.Verdict.{legalVerdict, allLegal, toldOutcome}
-use Rattle.decide.specs.Plan.{allTrue, outcomes, evaluations, openCount, markEvents, turnEvents, eventsFor, cellsAfter}
+use Rattle.plan.specs.Plan.{allTrue, outcomes, evaluations, openCount, markEvents, turnEvents, eventsFor, cellsAfter}
 use Rattle.implicit.specs.Record.{soundLast, soundRecord, putLast}
 use Rattle.implicit.specs.Setup.{leastFrom, startLevel, rootBlock, cutFirstIn, firstBlocks, rangesLegal, firstBytes, setupRefusal, startRecord, startRing, startCells, startedAnswer, ringBegun, cellsBegun}
 use Rattle.implicit.specs.Step.{unless, worldLeft, judged, opened, stepWith}
@@ -52,7 +52,7 @@ first = worldOf
 
 pub begun : BegunAs sheet first
 unfolding startedAnswer setupRefusal rangesLegal firstBytes firstBlocks cutFirstIn rootBlock startLevel leastFrom startRecord startRing startCells ringBegun cellsBegun queueCodes memory encode placeCode coordinateCode parametersCode parameterCode startingLast remembered smallCode codeOf tailOf littleEndian stored paintedCells paintable painted pictureReady inPicture holdsCell nameable doneTo meaningOf cellCode fits
-begun = record { ready = refl; ring = refl; cells = refl; held = ((tt, tt), (tt, tt), (tt, tt), (tt, tt)) }
+begun = record { accepted = refl; state = refl; ring = refl; cells = refl; held = ((tt, tt), (tt, tt), (tt, tt), (tt, tt)) }
 
 -- what the step leaves: the block is taken, its left child marked, its right one false
 abbrev pub second : World

@@ -23,7 +23,7 @@ use Rattle.queue.proofs.QueueLaws.{BytesHold, queue-is, take-answers}
 use Rattle.decide.specs.declared.Picture.{Picture}
 use Rattle.decide.specs.Damage.{undamaged, sound, coveredCells, cellDamaged}
 use Rattle.decide.specs.Children.{childrenOf}
-use Rattle.decide.proofs.Each.{Each}
+use Rattle.plan.proofs.Each.{Each}
 use Rattle.implicit.specs.Record.{pixelCount, soundRecord}
 use Rattle.implicit.specs.Listing.{frontOf}
 use Rattle.implicit.specs.Step.{World, refused, unless, enoughVerdicts, blockFine, judged, opened, stepWith}

@@ -18,7 +18,7 @@ pub mod NeverDamaged
 pub mod Drawing
 pub mod Places
 pub mod PlaneBounds
-pub mod Alike
+pub mod NoneWithdrawn
 pub mod Even
 pub mod TrueKept
 -- what the colours mean: a step's turns, the cuts, the question, the theorems
@@ -32,6 +32,8 @@ pub mod MixesSplit
 pub mod MixesFirst
 pub mod MixesExact
 pub mod ColoursHold
--- a closed instance
+-- closed instances. Claims stands before the laws in the alphabet, so it is checked before them, and a sentence that became false is refused there first
+pub mod Claims
+pub mod ExampleSteps
 pub mod Example
 pub mod ColoursExample

@@ -3,7 +3,7 @@ use mathlib.Core.Path.{_≡_, refl, sym, ap, ap₂, _∙_, subst}
 use mathlib.Core.Logic.{_⊎_, inl, inr, _↔_}
 use mathlib.Core.Bool.{Bool, true, false, _&&_}
 use mathlib.Core.List.{List, [], _∷_, _++_}
-use Prim.Native.Nat.{ℕ, _+_, _-_, _≤_}
+use Prim.Native.Nat.{ℕ, _+_, _≤_}
 use native.Mathlib.Omega.{arith}
 use native.Mathlib.Numerals.{add-one}
 use lib.Dec.{T}
@@ -18,15 +18,16 @@ use Rattle.decide.specs.declared.Picture.{Picture}
 use Rattle.decide.specs.Damage.{sound}
 use Rattle.decide.specs.Children.{childrenOf}
 use Rattle.decide.specs.Verdict.{allLegal}
-use Rattle.decide.specs.Plan.{outcomes, eventsFor}
-use Rattle.decide.proofs.Each.{each-also}
+use Rattle.plan.specs.Plan.{outcomes, eventsFor}
+use Rattle.plan.proofs.Each.{each-also}
 use Rattle.decide.proofs.DamageLaws.{is-sound}
-use Rattle.decide.proofs.ChildLaws.{ChildPlace, children-placed}
-use Rattle.decide.proofs.EventLaws.{EachEvent, events-narrower}
+use Rattle.plan.proofs.ChildLaws.{ChildPlace, children-placed}
+use Rattle.plan.proofs.EventLaws.{EachEvent, events-narrower}
 use Rattle.implicit.specs.declared.state.State.{State}
 use Rattle.implicit.specs.Record.{pixelCount}
-use Rattle.implicit.specs.Setup.{firstBlocks, startRecord}
+use Rattle.implicit.specs.Setup.{firstBlocks, startRecord, startedAnswer}
 use Rattle.implicit.specs.Step.{World, finished, outcomesOf, eventsOf, newBlocks, worldLeft, stepOf}
+use Rattle.implicit.proofs.Numbers.{ready-by-number}
 use Rattle.implicit.proofs.SetupLawsRefusal.{Accepted}
 use Rattle.implicit.proofs.StepLawsWent.{step-stays}
 use Rattle.promises.specs.Chart.{Pixel, coversIn, standingAt, queuedBlocks, snapshotOf}
@@ -36,7 +37,7 @@ use Rattle.promises.proofs.CellsKept.{standing-after}
 use Rattle.promises.proofs.EventsEach.{events-each}
 use Rattle.promises.proofs.Invariant.{Keeps, keeps-queue, block-sound, step-empty}
 use Rattle.promises.proofs.StepKeeps.{took-front, left-cells, step-keeps}
-use Rattle.promises.proofs.SetupKeeps.{begins, start-keeps, start-accepted}
+use Rattle.promises.proofs.SetupKeeps.{Begins, begins, start-keeps, start-accepted}
 
 -- a world with the picture p of which the invariant holds
 pub record Reached (p : Picture) (w : World) : Type 0 where
@@ -178,14 +179,19 @@ module _ (p : Picture) {w : World} (h : Reached p w) where
 -- THE SETUP
 
 module _ (a : Asked) (w : World) (z : BegunAs a w) where
+  begun-by : Begins (a .picture) (a .ranges) (a .ring) (a .cells) (w .state)
+  begun-by =
+      begins (a .picture) (a .ranges) (a .ring) (a .cells) (w .state)
+      (ready-by-number (startedAnswer (a .picture) (a .ranges) (length (a .ring)) (length (a .cells))) (w .state) (z .accepted) (z .state))
+
   -- what it has passed, and what it queued
   pub begun-passed : Accepted (a .picture) (a .ranges) (length (a .ring)) (length (a .cells))
-  begun-passed = begins (a .picture) (a .ranges) (a .ring) (a .cells) (w .state) (z .ready) .passed
+  begun-passed = begun-by .passed
 
   pub begun-reached : Reached (a .picture) w
   unfolding startRecord
   begun-reached =
-      let b = begins (a .picture) (a .ranges) (a .ring) (a .cells) (w .state) (z .ready) in
+      let b = begun-by in
       record {
         blocks = firstBlocks (a .picture) (a .ranges);
         keeps = rw (b .state, z .ring ∙ b .ring-is, z .cells ∙ b .cells-are) (start-keeps (a .picture) (a .ranges) (a .ring) (a .cells) (z .held) (b .passed));
@@ -194,7 +200,7 @@ module _ (a : Asked) (w : World) (z : BegunAs a w) where
 
   pub begun-accepted : AcceptedSetup (coversIn (a .picture)) (snapshotOf (a .picture) w)
   begun-accepted =
-      let b = begins (a .picture) (a .ranges) (a .ring) (a .cells) (w .state) (z .ready) in
+      let b = begun-by in
       rw (b .state, z .ring ∙ b .ring-is, z .cells ∙ b .cells-are) (start-accepted (a .picture) (a .ranges) (a .ring) (a .cells) (z .held) (b .passed))
 
   pub begun-queue : queuedBlocks w ≡ firstBlocks (a .picture) (a .ranges)

@@ -1,6 +1,5 @@
 -- Measures there are: exact ones, with fractions of a pixel for positions and ratios for reals; and any edges, exact or rounded, that neighbours share,
 -- as an evaluator has whose regions are clipped to the picture and whose inner edges are computed once for both sides. Assumes nothing.
-use mathlib.Core.Path.{_≡_}
 use mathlib.Core.Logic.{_⊎_, inl, inr, ⊎-elim}
 use Prim.Native.Nat.{ℕ, zero, _^_, _<_}
 use lib.Pow.{pow-pos}

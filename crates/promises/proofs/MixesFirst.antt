@@ -16,9 +16,10 @@ use Rattle.queue.specs.declared.directions.Direction.{Direction}
 use Rattle.queue.specs.declared.directions.Direction.the-variants as D
 use Rattle.queue.specs.Directions.{inUse}
 use Rattle.queue.specs.Block.{wholeLine, isInteger, parameterOf, withParameter, settledAt}
+use Rattle.queue.specs.Code.{legalIfUsed}
 use Rattle.decide.specs.declared.Picture.{Picture}
 use Rattle.implicit.specs.declared.state.Ranges.{Ranges}
-use Rattle.implicit.specs.Setup.{startLevel, rootBlock, eachCutFirst, cutFirstIn, firstBlocks, usedLegal, rangesLegal}
+use Rattle.implicit.specs.Setup.{startLevel, rootBlock, eachCutFirst, cutFirstIn, firstBlocks, rangesLegal}
 use Rattle.implicit.proofs.SetupLawsLevel.{level-width, level-height}
 use Rattle.implicit.proofs.SetupLawsFirst.{legal-ranges}
 use Rattle.theory.specs.Lists.{Some}
@@ -117,7 +118,7 @@ module _ (M : Measures) (a : Mix M) where
       k = startLevel p
 
       -- a used range, put, is cut without loss
-      used-first : (d : Direction) → (d ≡ D.XY → ⊥) → InFormat (rangeOf r d) → usedLegal (p .set) d (rangeOf r d) ≡ true → inUse (p .set) d ≡ true → FirstHeld d (putInterval (rangeOf r d))
+      used-first : (d : Direction) → (d ≡ D.XY → ⊥) → InFormat (rangeOf r d) → legalIfUsed (p .set) d (rangeOf r d) ≡ true → inUse (p .set) d ≡ true → FirstHeld d (putInterval (rangeOf r d))
       used-first d n f l u =
           let g : legalInterval (rangeOf r d) (isInteger d) ≡ true = rw u at l in
           first-held d (putInterval (rangeOf r d)) (put-format (rangeOf r d) f) (put-legal (rangeOf r d) (isInteger d) ∙ g) (lies-put d (rangeOf r d) (given d u)) n

@@ -24,10 +24,10 @@ use Rattle.queue.specs.Block.{isInteger, parameterOf, withParameter}
 use Rattle.decide.specs.declared.Picture.{Picture}
 use Rattle.decide.specs.Damage.{sound, directionOf}
 use Rattle.decide.specs.Children.{quartersOf, beginsInside, keptInside, childrenXY, childrenCut, childrenAlong, childrenOf}
-use Rattle.decide.proofs.Each.{Each, each-also}
+use Rattle.plan.proofs.Each.{Each, each-also}
 use Rattle.decide.proofs.ListingLaws.{cut-along}
-use Rattle.decide.proofs.PlaceLaws.{each-kept}
-use Rattle.decide.proofs.ChildLaws.{Fine, direction-in-use}
+use Rattle.plan.proofs.PlaceLaws.{each-kept}
+use Rattle.plan.proofs.ChildLaws.{Fine, direction-in-use}
 use Rattle.implicit.specs.declared.state.Ranges.{Ranges}
 use Rattle.theory.specs.Lists.{Some}
 use Rattle.theory.specs.Colours.{Question, Holds, LosesNothing}

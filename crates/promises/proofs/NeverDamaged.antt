@@ -1,4 +1,4 @@
--- No call on a world of which the invariant holds is refused by 8; and which refusals are left to a step with right verdicts. Assumes nothing.
+-- No call on a world of which the invariant holds is refused by 8; and which refusals are left to a step by its verdicts. Assumes nothing.
 use mathlib.Core.Path.{_≡_, refl, sym, ap, _∙_}
 use mathlib.Core.Logic.{_⊎_, inl, inr}
 use mathlib.Core.Bool.{Bool, true, false, cond, not, true≢false}
@@ -9,7 +9,7 @@ use native.Mathlib.Omega.{arith}
 use lib.Dec.{leb}
 use lib.ListN.{length, take, getD}
 use lib.Seq.{take-all}
-use borrow.Author.Tests.{le-leb, lt-ltb, le-ltb, eq-eqb}
+use borrow.Author.Tests.{le-leb, lt-ltb, le-ltb, eq-eqb, ne-eqb}
 use Rattle.refusal.specs.declared.Refusal.{Refusal}
 use Rattle.refusal.specs.declared.Refusal.the-variants as R
 use Rattle.refusal.specs.Number.{number}
@@ -22,19 +22,20 @@ use Rattle.queue.specs.declared.Block.{Block}
 use Rattle.queue.specs.Block.{remembered}
 use Rattle.decide.specs.declared.Picture.{Picture}
 use Rattle.decide.specs.Children.{childrenOf}
-use Rattle.implicit.specs.declared.state.Drawn.{Drawn}
+use Rattle.implicit.specs.declared.state.State.{State}
 use Rattle.implicit.specs.declared.state.Drawn.the-variants as Drawn
-use Rattle.implicit.specs.declared.state.Counted.{Counted}
-use Rattle.implicit.specs.declared.state.Counted.the-variants as Counted
+use Rattle.implicit.specs.declared.state.Ending.{Ending}
+use Rattle.implicit.specs.declared.state.Ending.the-variants as E
 use Rattle.implicit.specs.Record.{pixelCount, pixelCells, soundRecord}
 use Rattle.implicit.specs.Listing.{listedBlock, childrenListed}
-use Rattle.implicit.specs.Step.{World, StepEnd, refused, finished, unless, newBlocks, newBytes, judged, stepWith, stepOf}
-use Rattle.implicit.specs.Run.{notRun, runOf}
+use Rattle.implicit.specs.Step.{World, StepEnd, finished, unless, newBlocks, newBytes, judged, stepWith, stepOf, stepAnswer}
+use Rattle.implicit.specs.Run.{RunEnd, RunAnswer, notRun, hasRun, runOf, runAnswer}
 use Rattle.implicit.specs.View.{pictureAnswer, countsAnswer}
+use Rattle.implicit.specs.Answers.{stepNumber, stopNumber, runNumber, runStop, childrenNumber, drawnNumber, countsNumber}
 use Rattle.implicit.proofs.RecordLaws.{sound-record}
 use Rattle.implicit.proofs.StepLawsWent.{goes}
 use Rattle.promises.specs.Chart.{queuedBlocks}
-use Rattle.promises.specs.Steps.{LegalVerdicts, Suffices, NeverEight}
+use Rattle.promises.specs.Steps.{LegalVerdicts, WrongCount, SomeIllegal, Suffices, NeverEight}
 use Rattle.promises.proofs.CellsKept.{PixelsWhole}
 use Rattle.promises.proofs.Invariant.{Keeps, keeps-queue, not-damaged, head′, used′, front-is, fine, step-passes, step-empty}
 use Rattle.promises.proofs.Linked.{Reached, steps-reached}
@@ -42,45 +43,57 @@ use Rattle.promises.proofs.RunSteps.{run-steps, run-stops}
 
 -- A STEP
 
--- refused by one of these at most, if what follows is
-by-others : (why reason : Refusal) (t : Bool) (rest : StepEnd) → ¬ (why ≡ reason) → ¬ (rest ≡ refused reason) → ¬ (unless why t rest ≡ refused reason)
+-- the number of a step's end, where it is not that of this refusal, is that of what follows
+not-by : (s : State) (k : ℕ) (why : Refusal) (t : Bool) (rest : StepEnd) → ¬ (number why ≡ k) → ¬ (stepNumber (stepAnswer s rest) ≡ k) → ¬ (stepNumber (stepAnswer s (unless why t rest)) ≡ k)
 unfolding unless
-by-others why reason true rest n m e = m e
-by-others why reason false rest n m e = let f : why ≡ reason = cc in n f
+not-by s k why true rest n m = m
+not-by s k why false rest n m = n
 
-finished-not : (w : World) (evals bytes : ℕ) (why : Refusal) → ¬ (finished w evals bytes ≡ refused why)
-finished-not w evals bytes why e = let z : _≡_ {A = ℕ} 0 1 = cc in omega arith
-
-step-not-eight : (tape : Bool) (w : World) (q : List Block) → Keeps w q → (vs : List ℕ) → ¬ (stepWith tape w vs ≡ refused R.Damaged)
+step-not-eight : (tape : Bool) (w : World) (q : List Block) → Keeps w q → (vs : List ℕ) → ¬ (stepNumber (stepAnswer (w .state) (stepWith tape w vs)) ≡ 8)
 unfolding judged
-step-not-eight tape w [] k vs e = let f = step-empty w k tape vs in let z : _≡_ {A = ℕ} 0 1 = cc in omega arith
+step-not-eight tape w [] k vs e = let f = rw (step-empty w k tape vs) at e in omega (arith, f)
 step-not-eight tape w (c ∷ rest) k vs e =
-    by-others R.Verdicts R.Damaged _ _ (λ f. (let z : _≡_ {A = ℕ} 0 1 = cc in omega arith))
-    (by-others R.Verdict R.Damaged _ _ (λ f. (let z : _≡_ {A = ℕ} 0 1 = cc in omega arith))
-    (by-others R.Numbers R.Damaged _ _ (λ f. (let z : _≡_ {A = ℕ} 0 1 = cc in omega arith))
-    (by-others R.Room R.Damaged _ _ (λ f. (let z : _≡_ {A = ℕ} 0 1 = cc in omega arith)) (finished-not _ _ _ R.Damaged))))
-    (sym (step-passes w c rest k tape vs) ∙ e)
+    not-by (w .state) 8 R.Verdicts _ _ (λ f. omega arith)
+    (not-by (w .state) 8 R.Verdict _ _ (λ f. omega arith)
+    (not-by (w .state) 8 R.Numbers _ _ (λ f. omega arith)
+    (not-by (w .state) 8 R.Room _ _ (λ f. omega arith) (λ f. omega arith))))
+    (rw (step-passes w c rest k tape vs) at e)
 
 -- 6, 7, or 13 with nothing queued
-abbrev SixSevenThirteen : List Block → Refusal → Type 0
-SixSevenThirteen q why = (number why ≡ 6) ⊎ (number why ≡ 7) ⊎ ((number why ≡ 13) × (q ≡ []))
+abbrev SixSevenThirteen : List Block → ℕ → Type 0
+SixSevenThirteen q k = (k ≡ 6) ⊎ (k ≡ 7) ⊎ ((k ≡ 13) × (q ≡ []))
 
 -- what is left once the verdicts are right
-numbers-or-room : (q : List Block) (s t : Bool) (w : World) (evals bytes : ℕ) (why : Refusal) → unless R.Numbers s (unless R.Room t (finished w evals bytes)) ≡ refused why → SixSevenThirteen q why
+numbers-or-room : (state : State) (q : List Block) (s t : Bool) (w : World) (evals bytes : ℕ)
+    → (let k = stepNumber (stepAnswer state (unless R.Numbers s (unless R.Room t (finished w evals bytes)))) in (k ≡ 0) ⊎ SixSevenThirteen q k)
 unfolding unless
-numbers-or-room q true true w evals bytes why e = absurd (finished-not w evals bytes why e)
-numbers-or-room q true false w evals bytes why e = let f : R.Room ≡ why = cc in inl (ap number (sym f))
-numbers-or-room q false t w evals bytes why e = let f : R.Numbers ≡ why = cc in inr (inl (ap number (sym f)))
+numbers-or-room state q true true w evals bytes = inl refl
+numbers-or-room state q true false w evals bytes = inr (inl refl)
+numbers-or-room state q false t w evals bytes = inr (inr (inl refl))
 
-right-refused : (w : World) (q : List Block) → Keeps w q → (vs : List ℕ) → LegalVerdicts w vs q → (why : Refusal) → stepOf w vs ≡ refused why → SixSevenThirteen q why
+right-refused : (w : World) (q : List Block) → Keeps w q → (vs : List ℕ) → LegalVerdicts w vs q
+    → (let k = stepNumber (stepAnswer (w .state) (stepOf w vs)) in (k ≡ 0) ⊎ SixSevenThirteen q k)
 unfolding LegalVerdicts judged unless
-right-refused w [] k vs r why e = let f = step-empty w k false vs in let g : R.Empty ≡ why = cc in inr (inr (ap number (sym g), refl))
-right-refused w (c ∷ rest) k vs r why e =
+right-refused w [] k vs r = rw (step-empty w k false vs) (inr (inr (inr (refl, refl))))
+right-refused w (c ∷ rest) k vs r =
     let cs = childrenOf (w .state .picture) c in
     let own : take (length cs) vs ≡ vs = take-all (length cs) vs (omega (arith, r .0)) in
-    let f = sym (step-passes w c rest k false vs) ∙ e in
-    numbers-or-room (c ∷ rest) (leb (w .state .queued + length (newBlocks w c vs)) (2 ^ 32)) (leb (used′ w c rest k + length (newBytes w c vs)) (length (w .ring))) _ _ _ why
-    (rw (eq-eqb (length vs) (length cs) (r .0), own, r .1) at f)
+    rw (step-passes w c rest k false vs, eq-eqb (length vs) (length cs) (r .0), own, r .1)
+    (numbers-or-room (w .state) (c ∷ rest) (leb (w .state .queued + length (newBlocks w c vs)) (2 ^ 32)) (leb (used′ w c rest k + length (newBytes w c vs)) (length (w .ring))) _ _ _)
+
+-- verdicts that are not right
+wrong-refused : (w : World) (q : List Block) → Keeps w q → (vs : List ℕ) → WrongCount w vs q → stepNumber (stepAnswer (w .state) (stepOf w vs)) ≡ 4
+unfolding WrongCount unless
+wrong-refused w [] k vs r = absurd r
+wrong-refused w (c ∷ rest) k vs r = rw (step-passes w c rest k false vs, ne-eqb (length vs) (length (childrenOf (w .state .picture) c)) r)
+
+illegal-refused : (w : World) (q : List Block) → Keeps w q → (vs : List ℕ) → SomeIllegal w vs q → stepNumber (stepAnswer (w .state) (stepOf w vs)) ≡ 5
+unfolding SomeIllegal judged unless
+illegal-refused w [] k vs r = absurd r
+illegal-refused w (c ∷ rest) k vs r =
+    let cs = childrenOf (w .state .picture) c in
+    let own : take (length cs) vs ≡ vs = take-all (length cs) vs (omega (arith, r .0)) in
+    rw (step-passes w c rest k false vs, eq-eqb (length vs) (length cs) (r .0), own, r .1)
 
 -- and it is finished where numbers and room suffice
 suffices-goes : (w : World) (q : List Block) → Keeps w q → (vs : List ℕ) → LegalVerdicts w vs q → Suffices w vs q
@@ -128,72 +141,77 @@ module _ (w : World) (q : List Block) (k : Keeps w q) where
   picture-drawn room h =
       rw (own-ring, enough-test, le-leb (pixelCount (w .state .picture)) room h, pixels-fine (w .state .picture) (w .cells) (k .enough) (k .whole))
 
-  picture-not-eight : (room : ℕ) → ¬ (pictureAnswer (w .state) (w .cells) room ≡ Drawn.Refused R.Damaged)
+  picture-not-eight : (room : ℕ) → ¬ (drawnNumber (pictureAnswer (w .state) (w .cells) room) ≡ 8)
   unfolding pictureAnswer
   picture-not-eight room e = go (leb (pixelCount (w .state .picture)) room) (rw (own-ring, enough-test, pixels-fine (w .state .picture) (w .cells) (k .enough) (k .whole)) at e)
     where
-      go : (t : Bool) → ¬ (cond t Drawn.Done (Drawn.Refused R.Picture) ≡ Drawn.Refused R.Damaged)
-      go true f = let z : _≡_ {A = ℕ} 0 1 = cc in omega arith
-      go false f = let z : _≡_ {A = ℕ} 0 1 = cc in omega arith
+      go : (t : Bool) → ¬ (drawnNumber (cond t Drawn.Done (Drawn.Refused R.Picture)) ≡ 8)
+      go true f = omega arith
+      go false f = omega arith
 
-  counts-not-eight : ¬ (countsAnswer (w .state) (w .cells) ≡ Counted.Refused R.Damaged)
+  counts-not-eight : ¬ (countsNumber (countsAnswer (w .state) (w .cells)) ≡ 8)
   unfolding countsAnswer
-  counts-not-eight e =
-      let f = rw (own-ring, enough-test, pixels-fine (w .state .picture) (w .cells) (k .enough) (k .whole)) at e in
-      let z : _≡_ {A = ℕ} 0 1 = cc in omega arith
+  counts-not-eight e = let f = rw (own-ring, enough-test, pixels-fine (w .state .picture) (w .cells) (k .enough) (k .whole)) at e in omega (arith, f)
 
-  run-not-eight : (budget : ℕ) (tape : List ℕ) → ¬ (runOf budget w tape ≡ notRun R.Damaged)
+  run-not-eight : (budget : ℕ) (tape : List ℕ) → ¬ (runNumber (runAnswer (w .state) (runOf budget w tape)) ≡ 8)
   unfolding runOf
-  run-not-eight budget tape e = let f = rw (k .sound-record, enough-test) at e in let z : _≡_ {A = ℕ} 0 1 = cc in omega arith
+  run-not-eight budget tape e = let f = rw (k .sound-record, enough-test) at e in omega (arith, f)
 
-children-not-eight : (w : World) (q : List Block) → Keeps w q → ¬ (childrenListed (w .state) (w .ring) .answer ≡ Drawn.Refused R.Damaged)
+children-not-eight : (w : World) (q : List Block) → Keeps w q → ¬ (childrenNumber (childrenListed (w .state) (w .ring)) ≡ 8)
 unfolding childrenListed listedBlock
 children-not-eight w [] k e =
     let f = rw (k .sound-record, le-ltb (w .state .taken) (w .state .queued) (omega (arith, k .count))) at e in
-    let z : _≡_ {A = ℕ} 0 1 = cc in omega arith
+    omega (arith, f)
 children-not-eight w (c ∷ rest) k e =
     let n : w .state .taken < w .state .queued = omega (arith, k .count) in
     let f = rw (k .sound-record, lt-ltb (w .state .taken) (w .state .queued) n, front-is w c rest k, k .undamaged-all .0) at e in
-    let z : _≡_ {A = ℕ} 0 1 = cc in omega arith
+    omega (arith, f)
+
+-- what stops a run is a step on what the steps before it left
+stop-not-eight : (p : Picture) (w : World) → Reached p w → (budget : ℕ) (tape : List ℕ) → ¬ (runStop (runAnswer (w .state) (runOf budget w tape)) ≡ 8)
+stop-not-eight p w h budget tape = ran (runOf budget w tape) refl
+  where
+    ended : (e : RunEnd) → runOf budget w tape ≡ hasRun e → (g : Ending) → e .ending ≡ g → ¬ (stopNumber g ≡ 8)
+    ended e r E.Done s n = omega arith
+    ended e r E.Limit s n = omega arith
+    ended e r E.More s n = omega arith
+    ended e r (E.Stop why) s n =
+        let k = steps-reached p h (run-steps budget w tape e r .0) in
+        let (rest, f) = run-stops budget w tape e why r s in
+        step-not-eight true (e .world) (k .blocks) (k .keeps) rest (ap (λ (x : StepEnd). stepNumber (stepAnswer (e .world .state) x)) f ∙ n)
+
+    ran : (a : RunAnswer) → runOf budget w tape ≡ a → ¬ (runStop (runAnswer (w .state) a) ≡ 8)
+    ran (notRun why) r n = omega arith
+    ran (hasRun e) r n = ended e r (e .ending) refl n
 
 -- NO CALL
--- only damage has the number 8
-eight : (why : Refusal) → number why ≡ 8 → why ≡ R.Damaged
-eight R.Side e = absurd (omega arith)
-eight R.Cells e = absurd (omega arith)
-eight R.Parameter e = absurd (omega arith)
-eight R.Verdicts e = absurd (omega arith)
-eight R.Verdict e = absurd (omega arith)
-eight R.Room e = absurd (omega arith)
-eight R.Numbers e = absurd (omega arith)
-eight R.Damaged e = refl
-eight R.TooLarge e = absurd (omega arith)
-eight R.EndsEarly e = absurd (omega arith)
-eight R.HeadZero e = absurd (omega arith)
-eight R.Picture e = absurd (omega arith)
-eight R.Empty e = absurd (omega arith)
-eight R.Sheet e = absurd (omega arith)
 
 pub never-eight : (p : Picture) (w : World) → Reached p w → NeverEight w
 never-eight p w h =
     let k = h .keeps in
     record {
-      step = λ vs why e n. step-not-eight false w (h .blocks) k vs (e ∙ ap refused (eight why n));
-      run = λ budget tape why e n. run-not-eight w (h .blocks) k budget tape (e ∙ ap notRun (eight why n));
-      step-in-run = λ budget tape e why r s n. (let h′ = steps-reached p h (run-steps budget w tape e r .0) in
-          let (rest, f) = run-stops budget w tape e why r s in
-          step-not-eight true (e .world) (h′ .blocks) (h′ .keeps) rest (f ∙ ap refused (eight why n)));
-      children = λ why e n. children-not-eight w (h .blocks) k (e ∙ ap Drawn.Refused (eight why n));
-      picture = λ room why e n. picture-not-eight w (h .blocks) k room (e ∙ ap Drawn.Refused (eight why n));
-      counts = λ why e n. counts-not-eight w (h .blocks) k (e ∙ ap Counted.Refused (eight why n));
+      step = step-not-eight false w (h .blocks) k;
+      run = run-not-eight w (h .blocks) k;
+      step-in-run = stop-not-eight p w h;
+      children = children-not-eight w (h .blocks) k;
+      picture = picture-not-eight w (h .blocks) k;
+      counts = counts-not-eight w (h .blocks) k;
     }
 
-module _ (p : Picture) (w : World) (h : Reached p w) (vs : List ℕ) (r : LegalVerdicts w vs (queuedBlocks w)) where
+module _ (p : Picture) (w : World) (h : Reached p w) (vs : List ℕ) where
   abbrev is : queuedBlocks w ≡ h .blocks
   is = keeps-queue w (h .blocks) (h .keeps)
 
-  pub right-only : (why : Refusal) → stepOf w vs ≡ refused why → (number why ≡ 6) ⊎ (number why ≡ 7) ⊎ ((number why ≡ 13) × (queuedBlocks w ≡ []))
-  right-only why e = rw is (right-refused w (h .blocks) (h .keeps) vs (rw is at r) why e)
+  pub wrong-only : WrongCount w vs (queuedBlocks w) → stepNumber (stepAnswer (w .state) (stepOf w vs)) ≡ 4
+  wrong-only r = wrong-refused w (h .blocks) (h .keeps) vs (rw is at r)
 
-  pub goes-on : Suffices w vs (queuedBlocks w) → (left : World) × (evals : ℕ) × (bytes : ℕ) × (stepOf w vs ≡ finished left evals bytes)
-  goes-on s = suffices-goes w (h .blocks) (h .keeps) vs (rw is at r) (rw is at s)
+  pub illegal-only : SomeIllegal w vs (queuedBlocks w) → stepNumber (stepAnswer (w .state) (stepOf w vs)) ≡ 5
+  illegal-only r = illegal-refused w (h .blocks) (h .keeps) vs (rw is at r)
+
+  pub right-only : LegalVerdicts w vs (queuedBlocks w)
+      → (let k = stepNumber (stepAnswer (w .state) (stepOf w vs)) in (k ≡ 0) ⊎ (k ≡ 6) ⊎ (k ≡ 7) ⊎ ((k ≡ 13) × (queuedBlocks w ≡ [])))
+  right-only r = rw is (right-refused w (h .blocks) (h .keeps) vs (rw is at r))
+
+  pub goes-on : LegalVerdicts w vs (queuedBlocks w) → Suffices w vs (queuedBlocks w)
+      → (left : World) × (evals : ℕ) × (bytes : ℕ) × (stepOf w vs ≡ finished left evals bytes)
+  goes-on r s = suffices-goes w (h .blocks) (h .keeps) vs (rw is at r) (rw is at s)

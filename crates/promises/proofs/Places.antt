@@ -18,10 +18,10 @@ use Rattle.queue.specs.Directions.{usedOf, directions, directionAt}
 use Rattle.decide.specs.declared.Picture.{Picture}
 use Rattle.decide.specs.Damage.{sound, directionOf, directionRight}
 use Rattle.decide.specs.Children.{childrenOf}
-use Rattle.decide.specs.Plan.{outcomes}
+use Rattle.plan.specs.Plan.{outcomes}
 use Rattle.decide.proofs.DamageLaws.{is-sound}
 use Rattle.decide.proofs.ListingLaws.{cut-along}
-use Rattle.decide.proofs.EventLaws.{queued-sublist}
+use Rattle.plan.proofs.EventLaws.{queued-sublist}
 use Rattle.image.specs.Cell.{meanings}
 use Rattle.implicit.specs.Step.{World}
 use Rattle.promises.specs.Chart.{placeOf, coversIn, snapshotOf}

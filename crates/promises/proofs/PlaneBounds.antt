@@ -8,7 +8,6 @@ use lib.ListN.{length}
 use Rattle.base.proofs.Test.{and-both}
 use Rattle.theory.specs.Lists.{Every}
 use Rattle.theory.specs.Runs.{EveryStep}
-use Rattle.theory.specs.Demand3.{CoversAtMostOne}
 use Rattle.theory.specs.Levels.{OneBlock, QueuesChildren, NeverRise, OnTwoLevels, sumTo, placesAlong, placesAbove, pixelFigure}
 use Rattle.coordinate.specs.Axis.{places}
 use Rattle.theory.specs.Shapes.{quarters}
@@ -16,7 +15,7 @@ use Rattle.theory.proofs.Theorems as Theory
 use Rattle.queue.specs.declared.Block.{Block}
 use Rattle.decide.specs.declared.Picture.{Picture}
 use Rattle.decide.specs.Damage.{legalPicture, undamaged}
-use Rattle.decide.proofs.Each.{Each}
+use Rattle.plan.proofs.Each.{Each}
 use Rattle.implicit.specs.declared.state.Ranges.{Ranges}
 use Rattle.implicit.specs.Setup.{startLevel, rootBlock, firstBlocks, cutFirstIn}
 use Rattle.implicit.specs.Step.{World}
@@ -24,6 +23,7 @@ use Rattle.implicit.proofs.RecordLaws.{sound-picture}
 use Rattle.implicit.proofs.SetupLawsLevel.{level-width, level-height}
 use Rattle.promises.specs.Chart.{placeOf, coversIn, queuedBlocks, snapshotOf}
 use Rattle.promises.specs.Steps.{Asked, BegunAs, Steps, PlaneOnly}
+use Rattle.promises.specs.Sentences.{PixelBound}
 use Rattle.promises.proofs.Invariant.{Keeps, keeps-queue}
 use Rattle.promises.proofs.Linked.{begun-reached, begun-passed, begun-queue, steps-reached, in-theory, each-linked}
 use Rattle.promises.proofs.Places.{plane-above, plane-queues}
@@ -68,13 +68,6 @@ module _ (a : Asked) {w₀ : World} (z : BegunAs a w₀) (o : PlaneOnly (a .pict
       each-linked (a .picture) (begun-reached a w₀ z) (QueuesChildren (coversIn (a .picture)) false placeOf (quarters 48 (a .picture .width) (a .picture .height)))
       (λ v v′ vs l. plane-queues (a .picture) o v v′ vs l) r
 
-  pub pixels-bound : {n : ℕ} {w : World} → Steps n w₀ w
-      → sumTo (startLevel (a .picture)) (λ i. placesAlong (a .picture .width) (suc i) * placesAlong (a .picture .height) (suc i)) ≤ n
-      → Every (CoversAtMostOne (coversIn (a .picture))) (queuedBlocks w)
-  unfolding pixelFigure
-  pixels-bound r h =
-      Theory.pixel-bound (a .picture .width) (a .picture .height) 48 (startLevel (a .picture)) false placeOf one-block (in-theory (a .picture) (begun-reached a w₀ z) r) (queues-children r) h
-
   pub levels-fall : {n : ℕ} {w : World} → Steps n w₀ w → NeverRise (map placeOf (queuedBlocks w)) × ((j : ℕ) × OnTwoLevels j (map placeOf (queuedBlocks w)))
   levels-fall r =
       Theory.levels-never-rise (coversIn (a .picture)) false placeOf (quarters 48 (a .picture .width) (a .picture .height)) (Theory.quarters-are-lower 48 (a .picture .width) (a .picture .height))
@@ -93,3 +86,9 @@ module _ (a : Asked) {w₀ : World} (z : BegunAs a w₀) (o : PlaneOnly (a .pict
       let f = steps-reached (a .picture) (begun-reached a w₀ z) r in
       let is = keeps-queue w (f .blocks) (f .keeps) in
       is ∙ floor-empty w (rw (f .picture) o) (f .blocks) (f .keeps) (rw is at (levels-bound r 16 (32 + startLevel (a .picture)) (omega arith) h))
+
+pub pixels-bound : (a : Asked) {w₀ : World} → BegunAs a w₀ → PixelBound a w₀
+unfolding pixelFigure
+pixels-bound a {w₀} z o n w r h =
+    Theory.pixel-bound (a .picture .width) (a .picture .height) 48 (startLevel (a .picture)) false placeOf (one-block a z o) (in-theory (a .picture) (begun-reached a w₀ z) r)
+    (queues-children a z o r) h

@@ -1,6 +1,6 @@
 -- WHAT IS PROMISED of the engine. Each promise stands under its sentence; each proof is one line that names the law. To judge the promises one reads this
--- page, document 01 and these definitions: specs/ of this crate (Chart, Steps, Turns, Mixes); specs/ of `implicit` and of the crates under it, which its
--- contracts cite; and of `theory` specs/ Lists, Cells, Runs, Demand3, Levels, Shapes, Colours, Positions and Cuts. No proof file.
+-- page, document 01 and these definitions: specs/ of this crate (Chart, Steps, Turns, Mixes, Sentences); specs/ of `implicit` and of the crates under it,
+-- which its contracts cite; and of `theory` specs/ Lists, Cells, Runs, Demand3, Levels, Shapes, Colours, Positions and Cuts. No proof file.
 --
 -- The conditions, for all but the runs: a setup was called with `a`, was accepted, and left the world w₀ (BegunAs); each step was finished on the record,
 -- ring and cells that the setup or the step before it left, so nobody else wrote there (Steps). A queued block is one that the ring's bytes decode to.
@@ -8,63 +8,54 @@
 use mathlib.Core.Path.{_≡_, refl}
 use mathlib.Core.Logic.{_⊎_, _↔_}
 use mathlib.Core.List.{List, [], map, _++_}
-use Prim.Native.Nat.{ℕ, suc, _+_, _*_, _≤_, _<_}
-use lib.ListN.{length, take, drop, getD}
-use Rattle.refusal.specs.declared.Refusal.{Refusal}
-use Rattle.refusal.specs.Number.{number}
+use Prim.Native.Nat.{ℕ, suc, _+_, _*_, _≤_}
+use lib.ListN.{length, take, getD}
 use Rattle.coordinate.specs.Axis.{places}
 use Rattle.image.specs.declared.Reading.the-variants as Reads
 use Rattle.image.specs.Cell.{byteOf}
 use Rattle.image.specs.Range.{cellIndex}
 use Rattle.theory.specs.Lists.{Every}
-use Rattle.theory.specs.Demand3.{CoversAtMostOne}
-use Rattle.theory.specs.Levels.{NeverRise, OnTwoLevels, sumTo, placesAlong}
+use Rattle.theory.specs.Levels.{NeverRise, OnTwoLevels, sumTo}
 use Rattle.theory.specs.Colours.{Question, HasSolution, FalseRight, MarkRight}
 use Rattle.queue.specs.declared.Block.{Block}
-use Rattle.implicit.specs.declared.state.Drawn.the-variants as Drawn
 use Rattle.implicit.specs.Record.{pixelCount}
 use Rattle.implicit.specs.Setup.{startLevel}
-use Rattle.implicit.specs.Step.{World, refused, finished, stepOf}
+use Rattle.implicit.specs.Step.{World, finished, stepOf, stepAnswer}
 use Rattle.implicit.specs.Run.{RunEnd, hasRun, runOf}
 use Rattle.implicit.specs.View.{pictureLeft, pictureAnswer}
+use Rattle.implicit.specs.Answers.{stepNumber, drawnNumber}
 use Rattle.promises.specs.Chart.{Pixel, placeOf, coversIn, queuedBlocks}
-use Rattle.promises.specs.Steps.{Asked, BegunAs, Steps, verdictsOf, evaluationsOf, readsIn, NoneQueuedCovers, GivenUpIn, StandsGivenUp, queuedSince, PlaneOnly, LegalVerdicts, Suffices, NeverEight}
+use Rattle.promises.specs.Steps.{Asked, BegunAs, Steps, verdictsOf, evaluationsOf, readsIn, GivenUpIn, StandsGivenUp, PlaneOnly, LegalVerdicts, WrongCount, SomeIllegal, Suffices, NeverEight}
 use Rattle.promises.specs.Turns.{EveryAnswer}
 use Rattle.promises.specs.Mixes.{Measures, Mix, questionOf}
+use Rattle.promises.specs.Sentences.{FalseRule, FalseStays, LeavesAfter, PixelBound, WhiteMeansNo}
 use Rattle.promises.proofs.Linked.{begun-reached, steps-reached}
 use Rattle.promises.proofs.Demand3.{false-exactly, false-kept, left-behind, steps-taken, waiting, up-now}
 use Rattle.promises.proofs.PlaneBounds.{pixels-bound, levels-fall, levels-bound, empties}
-use Rattle.promises.proofs.NeverDamaged.{never-eight, right-only, goes-on}
+use Rattle.promises.proofs.NeverDamaged.{never-eight, wrong-only, illegal-only, right-only, goes-on}
 use Rattle.promises.proofs.Drawing.{drawn}
 use Rattle.promises.proofs.TrueKept.{true-kept, from-uncertain}
 use Rattle.promises.proofs.ColoursHold.{white-none, true-one, all-decided}
 use Rattle.promises.proofs.RunSteps as RunSteps
 
 module _ (a : Asked) {w₀ : World} (z : BegunAs a w₀) where
-  -- ---- DEMAND 3
+  -- ---- DEMAND 3: each sentence's statement stands under its name in specs/Sentences
 
   -- "A pixel reads False exactly if it isn't True, wasn't given up, and no queued block covers it."
-  pub false-rule : {n : ℕ} {w : World} (r : Steps n w₀ w) (q : Pixel (a .picture))
-      → (readsIn (a .picture) w q ≡ Reads.False)
-      ↔ ((¬ (readsIn (a .picture) w q ≡ Reads.True)) × (¬ GivenUpIn (a .picture) r q) × NoneQueuedCovers (a .picture) w q)
+  pub false-rule : FalseRule a w₀
   false-rule = false-exactly a z
 
   -- "A pixel that reads False stays False."
-  pub false-stays : {n m : ℕ} {w w′ : World} → Steps n w₀ w → Steps m w w′ → (q : Pixel (a .picture))
-      → readsIn (a .picture) w q ≡ Reads.False → readsIn (a .picture) w′ q ≡ Reads.False
+  pub false-stays : FalseStays a w₀
   false-stays = false-kept a z
 
-  -- "A block with d blocks before it has left the queue after d + 1 further finished steps": it and those before it are gone, those behind it come first,
-  -- and behind them stands what was queued since. (By its place: equal blocks may be queued twice.)
-  pub leaves : (d : ℕ) {n : ℕ} {w w′ : World} → Steps n w₀ w → (r : Steps (suc d) w w′) → d < length (queuedBlocks w)
-      → queuedBlocks w′ ≡ drop (suc d) (queuedBlocks w) ++ queuedSince r
+  -- "A block with d blocks before it has left the queue after d + 1 further finished steps."
+  pub leaves : LeavesAfter a w₀
   leaves = left-behind a z
 
   -- "If x or y is used and there is no parameter, then once the finished steps reach the sum, over j from 1 to the start level, of ceil(width / 2^j) times
   -- ceil(height / 2^j), no queued block covers more than one pixel."
-  pub pixel-bound : PlaneOnly (a .picture) → {n : ℕ} {w : World} → Steps n w₀ w
-      → sumTo (startLevel (a .picture)) (λ i. placesAlong (a .picture .width) (suc i) * placesAlong (a .picture .height) (suc i)) ≤ n
-      → Every (CoversAtMostOne (coversIn (a .picture))) (queuedBlocks w)
+  pub pixel-bound : PixelBound a w₀
   pixel-bound = pixels-bound a z
 
   -- ---- NEVER DAMAGED
@@ -73,13 +64,21 @@ module _ (a : Asked) {w₀ : World} (z : BegunAs a w₀) where
   pub never-damaged : {n : ℕ} {w : World} → Steps n w₀ w → NeverEight w
   never-damaged {w = w} r = never-eight (a .picture) w (steps-reached (a .picture) (begun-reached a w₀ z) r)
 
-  -- a step on it with legal verdicts in the right number is refused by 6, 7 or 13 alone, and by 13 only where nothing is queued (cells enough for the setup
-  -- are enough for it),
+  -- a step on it with legal verdicts in the right number is finished (0) or refused by 6, 7 or 13 alone, and by 13 only where nothing is queued (cells enough
+  -- for the setup are enough for it),
   pub refused-only : {n : ℕ} {w : World} → Steps n w₀ w → (vs : List ℕ) → LegalVerdicts w vs (queuedBlocks w)
-      → (why : Refusal) → stepOf w vs ≡ refused why → (number why ≡ 6) ⊎ (number why ≡ 7) ⊎ ((number why ≡ 13) × (queuedBlocks w ≡ []))
+      → (let k = stepNumber (stepAnswer (w .state) (stepOf w vs)) in (k ≡ 0) ⊎ (k ≡ 6) ⊎ (k ≡ 7) ⊎ ((k ≡ 13) × (queuedBlocks w ≡ [])))
   refused-only {w = w} r = right-only (a .picture) w (steps-reached (a .picture) (begun-reached a w₀ z) r)
 
-  -- it is finished where a block is queued and numbers and room suffice,
+  -- where a block is queued, verdicts in another number than its children are refused by 4 and nothing else,
+  pub refused-by-4 : {n : ℕ} {w : World} → Steps n w₀ w → (vs : List ℕ) → WrongCount w vs (queuedBlocks w) → stepNumber (stepAnswer (w .state) (stepOf w vs)) ≡ 4
+  refused-by-4 {w = w} r = wrong-only (a .picture) w (steps-reached (a .picture) (begun-reached a w₀ z) r)
+
+  -- and those in the right number that are not all legal by 5 and nothing else;
+  pub refused-by-5 : {n : ℕ} {w : World} → Steps n w₀ w → (vs : List ℕ) → SomeIllegal w vs (queuedBlocks w) → stepNumber (stepAnswer (w .state) (stepOf w vs)) ≡ 5
+  refused-by-5 {w = w} r = illegal-only (a .picture) w (steps-reached (a .picture) (begun-reached a w₀ z) r)
+
+  -- with legal ones it is finished where a block is queued and numbers and room suffice,
   pub step-goes-on : {n : ℕ} {w : World} → Steps n w₀ w → (vs : List ℕ) → LegalVerdicts w vs (queuedBlocks w) → Suffices w vs (queuedBlocks w)
       → (left : World) × (evals : ℕ) × (bytes : ℕ) × (stepOf w vs ≡ finished left evals bytes)
   step-goes-on {w = w} r = goes-on (a .picture) w (steps-reached (a .picture) (begun-reached a w₀ z) r)
@@ -111,7 +110,7 @@ module _ (a : Asked) {w₀ : World} (z : BegunAs a w₀) where
 
   -- with room for every pixel the picture is drawn, and shows what a pixel reads: its byte stands at the index of the pixel's cell
   pub picture-shows : {n : ℕ} {w : World} → Steps n w₀ w → (out : List ℕ) → pixelCount (a .picture) ≤ length out → (q : Pixel (a .picture))
-      → (pictureAnswer (w .state) (w .cells) (length out) ≡ Drawn.Done)
+      → (drawnNumber (pictureAnswer (w .state) (w .cells) (length out)) ≡ 0)
       × (getD (pictureLeft (w .state) (w .cells) out) (cellIndex (a .picture .width) (a .picture .height) (q .x) (q .y)) 0 ≡ byteOf (readsIn (a .picture) w q))
   picture-shows {w = w} r = drawn (a .picture) w (steps-reached (a .picture) (begun-reached a w₀ z) r)
 
@@ -142,8 +141,7 @@ module _ (M : Measures) (Solves : Mix M → Type 0) (a : Asked) {w₀ : World} (
   Q = questionOf M (a .picture) (a .ranges) Solves
 
   -- "if every `false` verdict was right, a pixel that reads False holds no solution"
-  pub white-means-no : {n : ℕ} {w : World} (r : Steps n w₀ w) → EveryAnswer (a .picture) (FalseRight (coversIn (a .picture)) Q) r
-      → (q : Pixel (a .picture)) → readsIn (a .picture) w q ≡ Reads.False → ¬ HasSolution Q q
+  pub white-means-no : WhiteMeansNo M Solves a w₀
   white-means-no = white-none M Solves a z
 
   -- "if every mark was right, a pixel that reads True holds one"

@@ -16,7 +16,7 @@ use Rattle.queue.proofs.RoundTrip.{ParameterFine, CanQueue}
 use Rattle.queue.proofs.QueueLaws.{Every}
 use Rattle.decide.specs.declared.Picture.{Picture}
 use Rattle.decide.specs.Damage.{undamaged}
-use Rattle.decide.proofs.Each.{Each}
+use Rattle.plan.proofs.Each.{Each}
 use Rattle.implicit.specs.Record.{soundLast, putLast}
 use Rattle.implicit.proofs.RecordLaws.{remembered-sound}
 

@@ -29,7 +29,7 @@ use Rattle.queue.proofs.KeptLaws.{known-start}
 use Rattle.queue.proofs.QueueLaws.{BytesHold, holds-none, holds-append, codes-some}
 use Rattle.decide.specs.declared.Picture.{Picture}
 use Rattle.decide.specs.Damage.{legalSide, undamaged}
-use Rattle.decide.proofs.Each.{Each, each-also}
+use Rattle.plan.proofs.Each.{Each, each-also}
 use Rattle.implicit.specs.declared.state.State.{State}
 use Rattle.implicit.specs.declared.state.Ranges.{Ranges}
 use Rattle.implicit.specs.declared.state.Started.the-variants as S

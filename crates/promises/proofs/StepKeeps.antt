@@ -24,9 +24,9 @@ use Rattle.queue.proofs.QueueLaws as Queue
 use Rattle.decide.specs.Damage.{undamaged, legalPicture, sound}
 use Rattle.decide.specs.Children.{childrenOf}
 use Rattle.decide.specs.Verdict.{allLegal}
-use Rattle.decide.specs.Plan.{cellsAfter}
-use Rattle.decide.proofs.Each.{Each, each-also}
-use Rattle.decide.proofs.EventLaws.{queued-sound}
+use Rattle.plan.specs.Plan.{cellsAfter}
+use Rattle.plan.proofs.Each.{Each, each-also}
+use Rattle.plan.proofs.EventLaws.{queued-sound}
 use Rattle.implicit.specs.Record.{putLast}
 use Rattle.implicit.specs.Step.{World, finished, outcomesOf, eventsOf, newBlocks, newBytes, worldLeft, stepOf}
 use Rattle.implicit.proofs.RecordLaws.{SoundRecord, sound-record, record-sound, sound-last, last-sound, remembered-sound, put-last-sound}

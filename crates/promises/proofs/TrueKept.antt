@@ -17,7 +17,7 @@ use Rattle.promises.specs.Steps.{Asked, BegunAs, Steps, readsIn}
 use Rattle.promises.proofs.Standings.{shown}
 use Rattle.promises.proofs.Linked.{Reached, begun-reached, begun-passed, begun-accepted, steps-reached, in-theory, each-linked}
 use Rattle.promises.proofs.Demand3.{reads-linked, reads-both}
-use Rattle.promises.proofs.Alike.{looks, one-pixel}
+use Rattle.promises.proofs.NoneWithdrawn.{looks, one-pixel}
 use Rattle.promises.proofs.Even.{begun-even, even-steps, even-alike}
 
 module _ (a : Asked) {w₀ : World} (z : BegunAs a w₀) {n : ℕ} {w : World} (r₀ : Steps n w₀ w) where

@@ -22,11 +22,11 @@ use Rattle.decide.specs.Damage.{sound}
 use Rattle.decide.specs.Children.{childrenOf}
 use Rattle.decide.specs.Verdict.{resultOf, areaOf, pointsOf, firstPoint, undecidedOutcome, toldOutcome, outcomeOf, isMarking}
 use Rattle.decide.specs.Turn.{turnedTo, turned}
-use Rattle.decide.specs.Plan.{cellsAfter, paintedUnder, allTrue, outcomes, openCount, markEvents, turnEvent, turnEvents, eventsFor}
-use Rattle.decide.proofs.Each.{Each, each-also}
-use Rattle.decide.proofs.CoverLaws.{true-pixels}
-use Rattle.decide.proofs.ChildLaws.{ChildPlace, Fine, children-placed}
-use Rattle.decide.proofs.QueuedLaws.{turns}
+use Rattle.plan.specs.Plan.{cellsAfter, paintedUnder, allTrue, outcomes, openCount, markEvents, turnEvent, turnEvents, eventsFor}
+use Rattle.plan.proofs.Each.{Each, each-also}
+use Rattle.plan.proofs.CoverLaws.{true-pixels}
+use Rattle.plan.proofs.ChildLaws.{ChildPlace, Fine, children-placed}
+use Rattle.plan.proofs.QueuedLaws.{turns}
 use Rattle.theory.specs.Lists.{Every}
 use Rattle.theory.specs.Cells.{Standing, isTrue}
 use Rattle.theory.specs.Runs.{Snapshot, cellAfter, FinishedStep}
@@ -36,7 +36,7 @@ use Rattle.promises.specs.Turns.{saidBy, turnsInto, becomes, turnsWith, 
 use Rattle.promises.proofs.Covering.{covers-as}
 use Rattle.promises.proofs.Standings.{true-as}
 use Rattle.promises.proofs.CellsKept.{still-enough, standing-after}
-use Rattle.promises.proofs.Alike.{not-all-true}
+use Rattle.promises.proofs.NoneWithdrawn.{not-all-true}
 
 -- how blocks are cut: a step has checked that the block it takes is undamaged, in a legal picture; its parameters are as the queue keeps them
 abbrev pub cuttingOf : Picture → Cutting Block

@@ -3,3 +3,4 @@ pub mod Chart
 pub mod Steps
 pub mod Turns
 pub mod Mixes
+pub mod Sentences

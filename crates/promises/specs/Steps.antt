@@ -9,8 +9,6 @@ use lib.Dec.{T}
 use lib.ListN.{length}
 use Rattle.theory.specs.Lists.{Every}
 use Rattle.theory.specs.Demand3.{anyGivesUp}
-use Rattle.refusal.specs.declared.Refusal.{Refusal}
-use Rattle.refusal.specs.Number.{number}
 use Rattle.interval.specs.Bounds.{InFormat}
 use Rattle.image.specs.declared.Reading.{Reading}
 use Rattle.image.specs.Cell.{GivenUp, reading, meanings}
@@ -23,15 +21,12 @@ use Rattle.decide.specs.declared.Picture.{Picture}
 use Rattle.decide.specs.Children.{childrenOf}
 use Rattle.decide.specs.Verdict.{allLegal}
 use Rattle.implicit.specs.declared.state.Ranges.{Ranges}
-use Rattle.implicit.specs.declared.state.Started.the-variants as S
-use Rattle.implicit.specs.declared.state.Ending.the-variants as End
-use Rattle.implicit.specs.declared.state.Drawn.the-variants as Drawn
-use Rattle.implicit.specs.declared.state.Counted.the-variants as Counted
 use Rattle.implicit.specs.Setup.{startedAnswer, ringBegun, cellsBegun}
 use Rattle.implicit.specs.Listing.{childrenListed}
-use Rattle.implicit.specs.Step.{World, refused, finished, stepOf, eventsOf, newBlocks, newBytes}
-use Rattle.implicit.specs.Run.{RunEnd, notRun, hasRun, runOf}
+use Rattle.implicit.specs.Step.{World, finished, stepOf, stepAnswer, eventsOf, newBlocks, newBytes}
+use Rattle.implicit.specs.Run.{runOf, runAnswer}
 use Rattle.implicit.specs.View.{pictureAnswer, countsAnswer}
+use Rattle.implicit.specs.Answers.{setupNumber, setupState, stepNumber, runNumber, runStop, childrenNumber, drawnNumber, countsNumber}
 use Rattle.promises.specs.Chart.{Pixel, coversIn, queuedBlocks}
 
 -- what a setup was called with
@@ -41,9 +36,10 @@ pub record Asked : Type 0 where
   pub ring : List ℕ
   pub cells : List ℕ
 
--- "an accepted setup" answers a record and leaves the ring and the cells: this world. The bounds handed in are values of f64, as every f64 is
+-- "an accepted setup" has the number 0, answers a record and leaves the ring and the cells: this world. The bounds handed in are values of f64, as every f64 is
 pub record BegunAs (a : Asked) (w : World) : Type 0 where
-  pub ready : startedAnswer (a .picture) (a .ranges) (length (a .ring)) (length (a .cells)) ≡ S.Ready (w .state)
+  pub accepted : setupNumber (startedAnswer (a .picture) (a .ranges) (length (a .ring)) (length (a .cells))) ≡ 0
+  pub state : setupState (startedAnswer (a .picture) (a .ranges) (length (a .ring)) (length (a .cells))) ≡ w .state
   pub ring : w .ring ≡ ringBegun (a .picture) (a .ranges) (a .ring) (a .cells)
   pub cells : w .cells ≡ cellsBegun (a .picture) (a .ranges) (a .ring) (a .cells)
   pub held : InFormat (a .ranges .m) × InFormat (a .ranges .n) × InFormat (a .ranges .theta) × InFormat (a .ranges .t)
@@ -107,6 +103,17 @@ LegalVerdicts w vs [] = Unit {0}
 LegalVerdicts w vs (b ∷ rest) =
     (length vs ≡ length (childrenOf (w .state .picture) b)) × (allLegal (childrenOf (w .state .picture) b) vs ≡ true)
 
+-- other than one verdict for each child of the first block of the queue
+unfoldable pub WrongCount : World → List ℕ → List Block → Type 0
+WrongCount w vs [] = ⊥
+WrongCount w vs (b ∷ rest) = ¬ (length vs ≡ length (childrenOf (w .state .picture) b))
+
+-- one for each, but not all of them legal
+unfoldable pub SomeIllegal : World → List ℕ → List Block → Type 0
+SomeIllegal w vs [] = ⊥
+SomeIllegal w vs (b ∷ rest) =
+    (length vs ≡ length (childrenOf (w .state .picture) b)) × (allLegal (childrenOf (w .state .picture) b) vs ≡ false)
+
 -- the first block of the queue can be taken and what its step queues has numbers and room: with the new blocks no more than 2^32 were ever queued, and
 -- the queue's bytes without those of the block, and the new ones, fit the ring
 unfoldable pub Suffices : World → List ℕ → List Block → Type 0
@@ -117,9 +124,9 @@ Suffices w vs (b ∷ rest) =
 
 -- "never refused by 8": no call on this world is, whatever else it is given
 pub record NeverEight (w : World) : Type 0 where
-  pub step : (vs : List ℕ) (why : Refusal) → stepOf w vs ≡ refused why → ¬ (number why ≡ 8)
-  pub run : (budget : ℕ) (tape : List ℕ) (why : Refusal) → runOf budget w tape ≡ notRun why → ¬ (number why ≡ 8)
-  pub step-in-run : (budget : ℕ) (tape : List ℕ) (e : RunEnd) (why : Refusal) → runOf budget w tape ≡ hasRun e → e .ending ≡ End.Stop why → ¬ (number why ≡ 8)
-  pub children : (why : Refusal) → childrenListed (w .state) (w .ring) .answer ≡ Drawn.Refused why → ¬ (number why ≡ 8)
-  pub picture : (room : ℕ) (why : Refusal) → pictureAnswer (w .state) (w .cells) room ≡ Drawn.Refused why → ¬ (number why ≡ 8)
-  pub counts : (why : Refusal) → countsAnswer (w .state) (w .cells) ≡ Counted.Refused why → ¬ (number why ≡ 8)
+  pub step : (vs : List ℕ) → ¬ (stepNumber (stepAnswer (w .state) (stepOf w vs)) ≡ 8)
+  pub run : (budget : ℕ) (tape : List ℕ) → ¬ (runNumber (runAnswer (w .state) (runOf budget w tape)) ≡ 8)
+  pub step-in-run : (budget : ℕ) (tape : List ℕ) → ¬ (runStop (runAnswer (w .state) (runOf budget w tape)) ≡ 8)
+  pub children : ¬ (childrenNumber (childrenListed (w .state) (w .ring)) ≡ 8)
+  pub picture : (room : ℕ) → ¬ (drawnNumber (pictureAnswer (w .state) (w .cells) room) ≡ 8)
+  pub counts : ¬ (countsNumber (countsAnswer (w .state) (w .cells)) ≡ 8)

@@ -15,7 +15,7 @@ use Rattle.decide.specs.declared.verdict.Outcome.{Outcome}
 use Rattle.decide.specs.declared.verdict.Outcome.the-variants as O
 use Rattle.decide.specs.Children.{childrenOf}
 use Rattle.decide.specs.Turn.{turned}
-use Rattle.decide.specs.Plan.{outcomes, openCount}
+use Rattle.plan.specs.Plan.{outcomes, openCount}
 use Rattle.implicit.specs.Step.{World}
 use Rattle.promises.specs.Chart.{queuedBlocks}
 use Rattle.promises.specs.Steps.{Steps, no-steps, then-step}

@@ -1,6 +1,6 @@
 -- What a sheet prints, once it is taken: `refused 1`, `refused 3`, or the chart of its run. Neither does setup find the cells or the ring short, nor are the run
 -- and its counts refused. FOR READERS: `Prints` and `taken-prints`, at the end. Assumes nothing.
-use mathlib.Core.Path.{_≡_, refl, sym}
+use mathlib.Core.Path.{_≡_, refl, sym, ap}
 use mathlib.Core.Bool.{Bool, true, false, cond, not, _&&_, true≢false}
 use mathlib.Core.List.{List, [], _∷_}
 use Prim.Native.Nat.{ℕ, _+_, _*_, _≤_}
@@ -11,9 +11,7 @@ use lib.Ieee.Bits.{ofBits-fits}
 use lib.ListN.{length, drop, length-append, length-replicate}
 use borrow.Author.Tests.{le-leb, ltb-false, not-true}
 use Rattle.base.proofs.Test.{cases, and-left, and-right, by-test}
-use Rattle.refusal.specs.declared.Refusal.{Refusal}
 use Rattle.refusal.specs.declared.Refusal.the-variants as R
-use Rattle.refusal.specs.Number.{number}
 use Rattle.interval.specs.Bounds.{InFormat}
 use Rattle.queue.specs.declared.Block.{Block}
 use Rattle.queue.specs.declared.Last.{Last}
@@ -23,7 +21,7 @@ use Rattle.queue.specs.Directions.{inUse}
 use Rattle.queue.specs.Block.{wholeLine, startingLast, remembered}
 use Rattle.queue.specs.Code.{encode, canQueue, indicesKnown}
 use Rattle.queue.specs.Queue.{queueCodes}
-use Rattle.queue.proofs.QueueLaws.{Every}
+use Rattle.queue.proofs.QueueLaws.{Every, can-code}
 use Rattle.queue.proofs.QueueableLaws.{encode-few}
 use Rattle.queue.proofs.RoundTrip.{CanQueue, Known}
 use Rattle.queue.proofs.KeptLaws.{known-after, known-start}
@@ -39,9 +37,9 @@ use Rattle.implicit.specs.Setup.{pictureOf, rangesLegal, firstBlocks, firstByte
 use Rattle.implicit.specs.Step.{World, worldOf}
 use Rattle.implicit.specs.Run.{RunEnd, hasRun, runFrom, runOf}
 use Rattle.implicit.specs.View.{cellsFine, countsOf, countsAnswer}
+use Rattle.implicit.specs.Answers.{setupNumber, setupState, countsNumber}
 use Rattle.implicit.proofs.SetupLawsFirst.{every-sub}
 use Rattle.implicit.proofs.SetupLawsBlocks.{RangesHeld, FirstBlock, first-blocks, first-count, first-can}
-use Rattle.implicit.proofs.SetupLawsWriting.{can-code}
 use Rattle.promises.specs.Steps.{Asked, BegunAs}
 use Rattle.promises.proofs.Linked.{begun-reached, steps-reached}
 use Rattle.promises.proofs.Promises.{never-damaged, run-reaches}
@@ -116,11 +114,11 @@ module _ (a : Asked) {w : World} (z : BegunAs a w) (budget : ℕ) (tape : List �
     where
       go : (t u v : Bool) (n : Counts) → u ≡ true
           → (let c = cond t (cond u (cond v (C.Of n) (C.Refused R.Damaged)) (C.Refused R.Cells)) (C.Refused R.Damaged) in
-          ((why : Refusal) → c ≡ C.Refused why → ¬ (number why ≡ 8)) → c ≡ C.Of n)
+          ¬ (countsNumber c ≡ 8) → c ≡ C.Of n)
       go true true true n f k = refl
-      go true true false n f k = absurd (k R.Damaged refl refl)
+      go true true false n f k = absurd (k refl)
       go t false v n f k = absurd (true≢false (sym f))
-      go false true v n f k = absurd (k R.Damaged refl refl)
+      go false true v n f k = absurd (k refl)
 
 -- WHAT IS PRINTED
 
@@ -156,7 +154,7 @@ module _ (s ring cells : List ℕ) (taken : takenSheet s ≡ true) (nr : length 
   run-prints : answerTo a ≡ S.Ready (begunBy a .state) → Prints s a (ranText (runOf (orderIn s .budget) (begunBy a) (drop (orderIn s .tape) s)))
   unfolding orderIn
   run-prints f =
-      let z : BegunAs a (begunBy a) = record { ready = f; ring = refl; cells = refl; held = ranges-held s (sheetSet s) } in
+      let z : BegunAs a (begunBy a) = record { accepted = ap setupNumber f; state = ap setupState f; ring = refl; cells = refl; held = ranges-held s (sheetSet s) } in
       let b = run-begins a z (orderIn s .budget) (drop (orderIn s .tape) s) in
       rw (b, counts-told a z (orderIn s .budget) (drop (orderIn s .tape) s) _ b) (prints-chart z _ b)
 

@@ -75,11 +75,11 @@ orderIn s = record {
   tape = placesIn (sheetSet s) .tape;
 }
 
--- "legal sides with over 4096 pixels"
+-- each side is one that setup takes, but together they have more pixels than the program draws
 abbrev pub tooLarge : ℕ → ℕ → Bool
 tooLarge width height = legalSide width && legalSide height && ltb 4096 (width * height)
 
--- not 14: "sheet shorter than its head, a zero bit set, over 16384 bytes, or legal sides with over 4096 pixels"; its head ends where its tape begins
+-- not 14: all of the head is there (it ends where the tape begins), its two spare bits are clear, the sheet fits the program's buffer, and the picture is not too large
 unfoldable pub takenSheet : List ℕ → Bool
 takenSheet s =
     leb (placesIn (sheetSet s) .tape) (length s) && eqb (zeroBits s) 0 && leb (length s) 16384

@@ -16,6 +16,7 @@ use Rattle.implicit.specs.declared.state.Ending.{Ending}
 use Rattle.implicit.specs.declared.state.Ending.the-variants as E
 use Rattle.implicit.specs.declared.state.Counts.{Counts}
 use Rattle.implicit.specs.Record.{pixelCells}
+use Rattle.implicit.specs.Answers.{endingWord, stopNumber}
 use Rattle.sheet.specs.Writing.{decimalText}
 
 -- a word, then a number
@@ -26,14 +27,14 @@ labelled word n = word ++ decimalText n
 abbrev pub lineEnd : List ℕ
 lineEnd = 10 ∷ []
 
--- a space and how the run ended: " done", " limit", " more", or " stop " and the refusal's number
+-- a space and the word of how the run ended: " done", " limit", " more", or " stop " and the number of what stopped it
 abbrev pub endingText : Ending → List ℕ
-endingText E.Done = 32 ∷ 100 ∷ 111 ∷ 110 ∷ 101 ∷ []
-endingText E.Limit = 32 ∷ 108 ∷ 105 ∷ 109 ∷ 105 ∷ 116 ∷ []
-endingText E.More = 32 ∷ 109 ∷ 111 ∷ 114 ∷ 101 ∷ []
-endingText (E.Stop why) = labelled (32 ∷ 115 ∷ 116 ∷ 111 ∷ 112 ∷ 32 ∷ []) (number why)
+endingText E.Done = 32 ∷ endingWord E.Done
+endingText E.Limit = 32 ∷ endingWord E.Limit
+endingText E.More = 32 ∷ endingWord E.More
+endingText (E.Stop why) = labelled (32 ∷ endingWord (E.Stop why) ++ 32 ∷ []) (stopNumber (E.Stop why))
 
--- "size, finished steps, evaluations, ending": "size ", " ", " steps ", " evals "
+-- the first line: both sides, then the steps and what they cost, then how the run ended; its words are "size ", " ", " steps ", " evals "
 unfoldable pub runLine : ℕ → ℕ → ℕ → ℕ → Ending → List ℕ
 runLine width height steps evals ending =
     labelled (115 ∷ 105 ∷ 122 ∷ 101 ∷ 32 ∷ []) width
@@ -43,14 +44,14 @@ runLine width height steps evals ending =
     ++ endingText ending
     ++ lineEnd
 
--- "pixels by reading": "true ", " false ", " uncertain "
+-- how many pixels show each reading, behind "true ", " false ", " uncertain "
 unfoldable pub readingCounts : Counts → List ℕ
 readingCounts n =
     labelled (116 ∷ 114 ∷ 117 ∷ 101 ∷ 32 ∷ []) (n .trues)
     ++ labelled (32 ∷ 102 ∷ 97 ∷ 108 ∷ 115 ∷ 101 ∷ 32 ∷ []) (n .falses)
     ++ labelled (32 ∷ 117 ∷ 110 ∷ 99 ∷ 101 ∷ 114 ∷ 116 ∷ 97 ∷ 105 ∷ 110 ∷ 32 ∷ []) (n .uncertain)
 
--- "given-up cells (also counted as uncertain), queued blocks, settled pixels in thousandths": " givenup ", " queued ", " share "
+-- how many cells are given up, how many blocks wait, and which share is settled, behind " givenup ", " queued ", " share "
 unfoldable pub otherCounts : Counts → List ℕ
 otherCounts n =
     labelled (32 ∷ 103 ∷ 105 ∷ 118 ∷ 101 ∷ 110 ∷ 117 ∷ 112 ∷ 32 ∷ []) (n .givenup)
@@ -67,7 +68,7 @@ unfoldable pub rowsOf : ℕ → ℕ → List ℕ → List ℕ
 rowsOf width zero l = []
 rowsOf width (suc height) l = take width l ++ lineEnd ++ rowsOf width height (drop width l)
 
--- "# True, . False, ? Uncertain", for each pixel, rows from the top
+-- a character for each pixel by its reading, rows from the top
 unfoldable pub characters : State → List ℕ → List ℕ
 characters s cells = map (λ c. characterOf (reading (s .taken) c)) (pixelCells (s .picture) cells)
 
@@ -82,6 +83,6 @@ chartText s cells steps evals ending n =
     ++ countLine n
     ++ rowsOf (s .picture .width) (s .picture .height) (characters s cells)
 
--- "prints only refused and its number": "refused "
+-- all that is printed of a refusal: "refused " and its number
 unfoldable pub refusedText : Refusal → List ℕ
 refusedText why = labelled (114 ∷ 101 ∷ 102 ∷ 117 ∷ 115 ∷ 101 ∷ 100 ∷ 32 ∷ []) (number why) ++ lineEnd

@@ -18,19 +18,19 @@ pub data Standing : Type 0 where
 pub data PixelReading : Type 0 where
   readsTrue readsFalse readsUncertain : PixelReading
 
--- "a number cell reads Uncertain if it is at least the number of blocks taken so far, else False; a given-up cell reads Uncertain"
+-- a pixel that a block stands for is open until that block has been taken, and False from then on; one that was given up stays open
 unfoldable pub standingReads : ℕ → Standing → PixelReading
 standingReads taken isTrue = readsTrue
 standingReads taken givenUp = readsUncertain
 standingReads taken (named n) = cond (leb taken n) readsUncertain readsFalse
 
--- "each covered cell that names the taken block or a later one names the new": the taken block's number is that of the blocks taken before it
+-- a queued child takes over the cells under it, except those left by blocks before the one just taken, whose number is how many were taken before it
 unfoldable pub renamed : ℕ → ℕ → Standing → Standing
 renamed taken new isTrue = isTrue
 renamed taken new givenUp = givenUp
 renamed taken new (named n) = cond (leb taken n) (named new) (named n)
 
--- "all cells of the parent become given up, True ones too"; the sparing mode leaves the True ones
+-- giving a block up overwrites what stands in its cells, a True as well; the sparing mode leaves the True ones
 unfoldable pub afterGivingUp : Bool → Standing → Standing
 afterGivingUp spare isTrue = cond spare isTrue givenUp
 afterGivingUp spare givenUp = givenUp

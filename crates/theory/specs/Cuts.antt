@@ -28,11 +28,11 @@ pointSpan minusInf = []
 pointSpan (finite a) = span (finite a) (finite a) ∷ []
 pointSpan plusInf = []
 
--- "first cut: [a,a], [a,b], [b,b] without illegal ones"; of a real, repeats are kept
+-- the first cut: both ends as points, where they are finite, around the whole; of a real, repeats are kept
 unfoldable pub firstPieces : {N : Type 0} → Span N → List (Span N)
 firstPieces v = pointSpan (v .lower) ++ (v ∷ pointSpan (v .upper))
 
--- "later cut at c: [a,c], [c,c], [c,b]"
+-- a later cut: what lies up to c, c itself, and what lies from c on
 unfoldable pub laterPieces : {N : Type 0} → N → Span N → List (Span N)
 laterPieces c v = span (v .lower) (finite c) ∷ span (finite c) (finite c) ∷ span (finite c) (v .upper) ∷ []
 
@@ -92,7 +92,7 @@ hasWidth1 v = isStep sucℤ (v .lower) (v .upper)
 unfoldable pub hasWidth2 : Span ℤ → Bool
 hasWidth2 v = isStep (λ a. sucℤ (sucℤ a)) (v .lower) (v .upper)
 
--- "for integers width 1 is dropped"
+-- no integer lies inside two neighbours: such a piece is left out
 unfoldable pub withoutWidth1 : List (Span ℤ) → List (Span ℤ)
 withoutWidth1 [] = []
 withoutWidth1 (v ∷ l) = cond (hasWidth1 v) (withoutWidth1 l) (v ∷ withoutWidth1 l)
@@ -103,7 +103,7 @@ nextEnd minusInf = minusInf
 nextEnd (finite a) = finite (sucℤ a)
 nextEnd plusInf = plusInf
 
--- "width 2, if subdivisible, becomes its middle alone"
+-- three integers in a row that could be cut further stand for the one in the middle
 unfoldable pub middleIfWidth2 : (Span ℤ → Bool) → Span ℤ → Span ℤ
 middleIfWidth2 divisible v = cond (hasWidth2 v && divisible v) (span (nextEnd (v .lower)) (nextEnd (v .lower))) v
 
@@ -119,7 +119,7 @@ sameEnd plusInf minusInf = false
 sameEnd plusInf (finite b) = false
 sameEnd plusInf plusInf = true
 
--- the pieces after v, without "a repeat next to its equal"
+-- the pieces after v, each left out that equals the one before it
 unfoldable pub unlikeBefore : Span ℤ → List (Span ℤ) → List (Span ℤ)
 unlikeBefore v [] = []
 unlikeBefore v (u ∷ l) = cond (sameEnd (v .lower) (u .lower) && sameEnd (v .upper) (u .upper)) (unlikeBefore v l) (u ∷ unlikeBefore u l)

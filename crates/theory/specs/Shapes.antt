@@ -14,7 +14,7 @@ pub record PixelIn (w h : ℕ) : Type 0 where
   pub x-in : x < w
   pub y-in : y < h
 
--- "a block covers its square of pixels, clipped to the picture"
+-- a block covers a pixel of the picture exactly if it does along both axes
 unfoldable pub coversPixel : {w h : ℕ} → ℕ → Place → PixelIn w h → Bool
 coversPixel px b p = coversAlong px (b .level) (b .x) (p .x) && coversAlong px (b .level) (b .y) (p .y)
 
@@ -22,8 +22,8 @@ coversPixel px b p = coversAlong px (b .level) (b .x) (p .x) && coversAlong px (
 abbrev pub coversByPlace : {Block : Type 0} (w h px : ℕ) → (Block → Place) → Block → PixelIn w h → Bool
 coversByPlace w h px placeOf b p = coversPixel px (placeOf b) p
 
--- "above level 0 without those outside the picture": is index i of level j listed as a child, along a side of w pixels? Its parent is above
--- the pixel's level exactly if j is not below it
+-- is index i of level j listed as a child, along a side of w pixels? Of a parent above the pixel's level, which it is exactly if j is not below
+-- that level, only what begins inside the picture
 unfoldable pub isListed : ℕ → ℕ → ℕ → ℕ → Bool
 isListed px w j i = ltb j px || ltb (beginsIn px j i) w
 
@@ -31,7 +31,7 @@ isListed px w j i = ltb j px || ltb (beginsIn px j i) w
 unfoldable pub listedIf : Bool → Place → List Place → List Place
 listedIf t c l = cond t (c ∷ l) l
 
--- the quarters of the place x, y of a level: "(0,0), (1,0), (0,1), (1,1)", one level down; under the lowest level there is nothing
+-- the quarters of the place x, y of a level, one level down: the lower row first, each row from the left; under the lowest level there is nothing
 unfoldable pub quartersAt : ℕ → ℕ → ℕ → ℕ → ℕ → ℕ → List Place
 quartersAt px w h x y zero = []
 quartersAt px w h x y (suc j) =
@@ -44,7 +44,7 @@ quartersAt px w h x y (suc j) =
 unfoldable pub quarters : ℕ → ℕ → ℕ → Place → List Place
 quarters px w h b = quartersAt px w h (b .x) (b .y) (b .level)
 
--- the halves of index x of a level of a strip: "halving in x only, the right one left out above level 0 if it starts outside"
+-- the halves of index x of a level of a strip, which is cut along x alone: the left one, then the right one, as far as they are listed
 unfoldable pub halvesAt : ℕ → ℕ → ℕ → ℕ → List Place
 halvesAt px w x zero = []
 halvesAt px w x (suc j) = listedIf (isListed px w j (x + x)) (placeAt (x + x) 0 j) (listedIf (isListed px w j (suc (x + x))) (placeAt (suc (x + x)) 0 j) [])

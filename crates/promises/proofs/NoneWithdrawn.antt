@@ -28,12 +28,12 @@ use Rattle.decide.specs.declared.verdict.Outcome.{Outcome}
 use Rattle.decide.specs.Children.{childrenOf}
 use Rattle.decide.specs.Verdict.{isMarking, isOpen}
 use Rattle.decide.specs.Turn.{turned}
-use Rattle.decide.specs.Plan.{allTrue, outcomes, openCount, markEvents, turnEvent, turnEvents, eventsFor}
-use Rattle.decide.proofs.Each.{Each}
+use Rattle.plan.specs.Plan.{allTrue, outcomes, openCount, markEvents, turnEvent, turnEvents, eventsFor}
+use Rattle.plan.proofs.Each.{Each}
 use Rattle.decide.proofs.DamageLaws.{is-sound}
-use Rattle.decide.proofs.PlaceLaws.{Lies, stays, quarters, children-lie}
-use Rattle.decide.proofs.QueuedLaws.{nowhere-floor}
-use Rattle.decide.proofs.EventLaws.{all-true-nothing}
+use Rattle.plan.proofs.PlaceLaws.{Lies, stays, quarters, children-lie}
+use Rattle.plan.proofs.QueuedLaws.{nowhere-floor}
+use Rattle.plan.proofs.EventLaws.{all-true-nothing}
 use Rattle.implicit.specs.Step.{World}
 use Rattle.promises.specs.Chart.{Pixel, placeOf, coversIn, standing, standingAt, snapshotOf}
 use Rattle.promises.proofs.Covering.{Level, covers-as}
