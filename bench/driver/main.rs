@@ -228,6 +228,7 @@ fn time(rounds: usize) {
     time_stepwise(&work, rounds).row("the first again, children and step by step", format!("{} steps", work.steps));
     time_setup(&work::square(4096), rounds).row("setup of 4096 by 4096", "16777216 cells".into());
     time_picture(4096, rounds).row("picture of 4096 by 4096", "16777216 cells".into());
+    time_picture(1024, rounds).row("picture of 1024 by 1024", "1048576 cells".into());
 }
 
 /// One engine on one task, for callgrind.

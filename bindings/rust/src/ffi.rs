@@ -77,12 +77,14 @@ pub struct State {
 }
 
 #[repr(C)]
+#[derive(Clone, Copy, Default)]
 pub struct Started {
     pub refusal: u64,
     pub state: State,
 }
 
 #[repr(C)]
+#[derive(Clone, Copy, Default)]
 pub struct Listed {
     pub refusal: u64,
     pub count: usize,
@@ -90,6 +92,7 @@ pub struct Listed {
 }
 
 #[repr(C)]
+#[derive(Clone, Copy, Default)]
 pub struct Stepped {
     pub refusal: u64,
     pub evaluations: u64,
@@ -98,6 +101,7 @@ pub struct Stepped {
 }
 
 #[repr(C)]
+#[derive(Clone, Copy, Default)]
 pub struct Ran {
     pub refusal: u64,
     pub ending: u64,
@@ -109,12 +113,14 @@ pub struct Ran {
 }
 
 #[repr(C)]
+#[derive(Clone, Copy, Default)]
 pub struct Counted {
     pub refusal: u64,
     pub counts: Tally,
 }
 
 #[repr(C)]
+#[derive(Clone, Copy, Default)]
 pub struct Tally {
     pub trues: u64,
     pub falses: u64,
@@ -126,18 +132,21 @@ pub struct Tally {
 
 /// A number that is asked for, or the refusal.
 #[repr(C)]
+#[derive(Clone, Copy, Default)]
 pub struct Number {
     pub refusal: u64,
     pub value: u64,
 }
 
 #[repr(C)]
+#[derive(Clone, Copy, Default)]
 pub struct Point {
     pub refusal: u64,
     pub value: f64,
 }
 
 #[repr(C)]
+#[derive(Clone, Copy, Default)]
 pub struct Pieces {
     pub refusal: u64,
     pub count: usize,
