@@ -1,3 +1,4 @@
 -- The definitions that the contracts cite.
 pub mod Axis
 pub mod Lone
+pub mod Answers

@@ -25,6 +25,7 @@ pub mod FiniteEnds
 pub mod CutUpTo
 pub mod CutInside
 pub mod CutPoint
+pub mod MiddleInside
 pub mod RustChain
 pub mod SplitByCut
 -- the cuts

@@ -29,14 +29,19 @@ used-length set d ds = go (inUse set d)
     go true = omega arith
     go false = omega arith
 
-pub directions-length : (set a b c d e : ℕ)
-    → a ≡ ones (inUse set D.XY) → b ≡ ones (inUse set D.M) → c ≡ ones (inUse set D.N) → d ≡ ones (inUse set D.Theta) → e ≡ ones (inUse set D.T)
-    → a + b + c + d + e ≡ length (directions set)
-unfolding directions
-directions-length set a b c d e p q r s t =
-    let none : length (usedOf set []) ≡ 0 = unfold usedOf in refl in
-    rw (p, q, r, s, t, used-length set D.XY parameters, used-length set D.M (D.N ∷ D.Theta ∷ D.T ∷ []), used-length set D.N (D.Theta ∷ D.T ∷ []), used-length set D.Theta (D.T ∷ []), used-length set D.T [])
-    (omega arith)
+-- the counts one by one
+module _ (set b c d e : ℕ) (is-m : b ≡ ones (inUse set D.M)) (is-n : c ≡ ones (inUse set D.N))
+    (is-theta : d ≡ ones (inUse set D.Theta)) (is-t : e ≡ ones (inUse set D.T)) where
+  pub parameters-length : b + c + d + e ≡ length (usedOf set parameters)
+  parameters-length =
+      let none : length (usedOf set []) ≡ 0 = unfold usedOf in refl in
+      rw (is-m, is-n, is-theta, is-t)
+      (rw (used-length set D.M (D.N ∷ D.Theta ∷ D.T ∷ []), used-length set D.N (D.Theta ∷ D.T ∷ []), used-length set D.Theta (D.T ∷ []), used-length set D.T [])
+      (omega arith))
+
+  pub directions-length : (a : ℕ) → a ≡ ones (inUse set D.XY) → a + b + c + d + e ≡ length (directions set)
+  unfolding directions
+  directions-length a is-xy = rw (is-xy, used-length set D.XY parameters) (omega (arith, parameters-length))
 
 -- the first of a list, where it is in use and asked for
 pub at-first : (set : ℕ) (d : Direction) (ds : List Direction) (at k : ℕ) → k ≡ ones (inUse set d) → at < k → directionAt (usedOf set (d ∷ ds)) at ≡ A.Along d

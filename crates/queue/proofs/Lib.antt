@@ -2,11 +2,13 @@
 pub mod RingLaws
 pub mod DirectionLaws
 pub mod WriteLaws
+pub mod LevelBytes
 pub mod LengthLaws
 pub mod QueueableLaws
 pub mod ReadLaws
 pub mod BlockReading
 pub mod QueueAnswers
+pub mod CopyLaws
 pub mod PlainLaws
 pub mod NumberLaws
 pub mod Xor

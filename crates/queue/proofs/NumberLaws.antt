@@ -20,7 +20,8 @@ use Rattle.queue.specs.declared.read.Reading.the-variants as R
 use Rattle.queue.specs.Ring.{content, fitsRing, wrapped}
 use Rattle.queue.specs.Block.{settled, remembered}
 use Rattle.queue.specs.Decode.{decode}
-use Rattle.queue.specs.Queue.{takenWith, taken, takenNumber, codable, codeOfKept, measured, measuredNumber, appended, appendedNumber, changedBy, appendedRing}
+use Rattle.queue.specs.Answers.{takenNumber, measuredNumber, appendedNumber}
+use Rattle.queue.specs.Queue.{takenWith, taken, codable, codeOfKept, measured, appended, changedBy, appendedRing}
 
 -- ---- take
 

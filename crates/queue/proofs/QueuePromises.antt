@@ -4,10 +4,15 @@
 -- of f64s is asked for where bounds are spelled out: those of the code are. Assumes nothing.
 use mathlib.Core.Path.{_≡_}
 use mathlib.Core.Logic.{_⊎_, _↔_}
-use mathlib.Core.Bool.{true, false}
+use mathlib.Core.Bool.{true, false, _&&_}
 use mathlib.Core.List.{List, [], _∷_, _++_}
 use Prim.Native.Nat.{ℕ, suc, _+_, _-_, _≤_, _<_}
+use lib.IntN.{pos, negsuc}
+use lib.Signed.{leZ}
 use lib.ListN.{length, getD, drop}
+use mir.Syntax.{w8}
+use mir.Val.{toZ, ofZ}
+use Rattle.coordinate.specs.Axis.{level}
 use Rattle.interval.specs.Bounds.{InFormat}
 use Rattle.queue.specs.declared.Block.{Block}
 use Rattle.queue.specs.declared.Last.{Last}
@@ -15,13 +20,18 @@ use Rattle.queue.specs.declared.Taken.the-variants as T
 use Rattle.queue.specs.declared.Appended.the-variants as A
 use Rattle.queue.specs.declared.Measured.the-variants as M
 use Rattle.queue.specs.declared.directions.Direction.{Direction}
+use Rattle.queue.specs.declared.read.LevelRead.the-variants as L
 use Rattle.queue.specs.declared.read.Reading.the-variants as R
 use Rattle.queue.specs.Ring.{content, fitsRing, wrapped, stored, storedBehind}
 use Rattle.queue.specs.Block.{parameterOf, recalled, settled, remembered}
-use Rattle.queue.specs.Decode.{decode}
-use Rattle.queue.specs.Queue.{taken, takenNumber, codable, codeOfKept, measured, measuredNumber, appended, appendedNumber, appendedRing, queueOf}
+use Rattle.queue.specs.Code.{levelByte}
+use Rattle.queue.specs.Decode.{levelOf, decode}
+use Rattle.queue.specs.Answers.{takenNumber, measuredNumber, appendedNumber, copiedNumber}
+use Rattle.queue.specs.Queue.{taken, codable, codeOfKept, measured, appended, appendedRing, copied, copiedRing, queueOf}
 use Rattle.queue.proofs.RingLaws.{content-store, content-take, stored-other}
+use Rattle.queue.proofs.LevelBytes.{byte-of-level, level-of-byte, no-level-of-byte}
 use Rattle.queue.proofs.NumberLaws.{take-is-0, take-is-8, take-gives, append-is-0, append-is-6, append-is-8, append-gives, refused-stays, measure-is-0, measure-gives, measure-is-8, take-by-content}
+use Rattle.queue.proofs.CopyLaws.{copy-is-0, copy-is-6, copy-is-8, copy-refused, copy-content}
 use Rattle.queue.proofs.QueueLaws.{BytesHold, kept-round, queue-is, take-first, take-queue, take-none, take-frees, append-holds, append-queue, append-fills, append-stores}
 
 -- ---- Document 01's number of each answer, and what an answer of 0 holds
@@ -89,7 +99,38 @@ module _ (set : ℕ) (back : Last) (b : Block) where
   pub measure-eight-exactly : (measuredNumber (measured set back b) ≡ 8) ↔ (codable set back b ≡ false)
   measure-eight-exactly = measure-is-8 set back b
 
+module _ (ring : List ℕ) (head used : ℕ) (other : List ℕ) where
+  -- copy: 0 exactly if head and use fit the ring, and byte 0 and the use the other
+  pub copy-zero-exactly : (copiedNumber (copied (length ring) head used (length other)) ≡ 0)
+      ↔ ((fitsRing (length ring) head used ≡ true) × (fitsRing (length other) 0 used ≡ true))
+  copy-zero-exactly = copy-is-0 ring head used other
+
+  -- 6 exactly if all is well but the other's room
+  pub copy-six-exactly : (copiedNumber (copied (length ring) head used (length other)) ≡ 6)
+      ↔ ((fitsRing (length ring) head used ≡ true) × (fitsRing (length other) 0 used ≡ false))
+  copy-six-exactly = copy-is-6 ring head used other
+
+  -- 8 exactly if head and use do not fit the ring
+  pub copy-eight-exactly : (copiedNumber (copied (length ring) head used (length other)) ≡ 8) ↔ (fitsRing (length ring) head used ≡ false)
+  copy-eight-exactly = copy-is-8 ring head used other
+
+  -- a refusal changes no byte
+  pub copy-refused-keeps : ¬ (copiedNumber (copied (length ring) head used (length other)) ≡ 0) → copiedRing ring head used other ≡ other
+  copy-refused-keeps = copy-refused ring head used other
+
 -- ---- Bytes
+
+-- "level as one byte": the two's complement of document 01's level, k, which is the rank less 48
+pub level-written : (rank : ℕ) → rank < 64 → levelByte rank ≡ ofZ w8 (level rank)
+level-written = byte-of-level
+
+-- a byte is read as the level whose two's complement it is
+pub level-read-back : (byte rank : ℕ) → byte < 256 → levelOf byte ≡ L.Rank rank → level rank ≡ toZ w8 byte
+level-read-back = level-of-byte
+
+-- and is damage exactly if that is none of -32 to 15 (`negsuc 31` is -32)
+pub level-unread : (byte : ℕ) → byte < 256 → (levelOf byte ≡ L.Damaged) ↔ (leZ (negsuc 31) (toZ w8 byte) && leZ (toZ w8 byte) (pos 15) ≡ false)
+level-unread = no-level-of-byte
 
 -- decode after encode: the code of a block that can be coded, whatever follows it, is read as the block, its used parameters put
 pub decode-after-encode : (set : ℕ) (last : Last) (b : Block) (rest : List ℕ) → codable set last b ≡ true → ((d : Direction) → InFormat (parameterOf b d))
@@ -105,6 +146,11 @@ content-after-storing = content-store
 pub content-after-taking : (ring : List ℕ) (head used count : ℕ) → head < length ring → used ≤ length ring → count ≤ used
     → content ring (wrapped (length ring) (head + count)) (used - count) ≡ drop count (content ring head used)
 content-after-taking = content-take
+
+-- content after copying: the other ring holds the same bytes, so that it decodes to the same blocks
+pub content-after-copying : (ring : List ℕ) (head used : ℕ) (other : List ℕ) → fitsRing (length ring) head used ≡ true → fitsRing (length other) 0 used ≡ true
+    → content (copiedRing ring head used other) 0 used ≡ content ring head used
+content-after-copying = copy-content
 
 -- storing from p on, round the end, leaves the byte at i as it was if none of the bytes comes to lie there
 pub others-stay : (bytes ring : List ℕ) (p i : ℕ) → p < length ring → i < length ring → (p ≤ i → p + length bytes ≤ i) → (i < p → p + length bytes ≤ length ring + i)

@@ -4,7 +4,7 @@ use mathlib.Core.Bool.{cond}
 use mathlib.Core.List.{List, [], _∷_, _++_, append-assoc, append-nil}
 use Prim.Native.Nat.{ℕ, zero, suc, _+_, _-_, _≤_, _<_}
 use native.Mathlib.Omega.{arith}
-use native.Mathlib.Nat.{add-zero, add-assoc, sub-zero}
+use native.Mathlib.Nat.{add-zero, add-assoc, sub-zero, add-comm, min-eq-left, min-eq-right}
 use native.Mathlib.Decide.{ℕ-discrete}
 use native.Mathlib.Numerals.{add-one}
 use lib.Dec.{eqb}
@@ -12,7 +12,7 @@ use lib.ListN.{length, getD, take, drop, set, length-drop, length-take, length-s
 use lib.Seq.{sets, take-all, drop-cons, getD-drop, getD-append-add, drop-set-add, drop-append-le, drop-append-add, take-append-le, take-nil, drop-drop, drop-set-lt, take-suc-set, drop-length, getD-set-other}
 use borrow.Author.Tests.{lt-ltb, le-ltb, eq-eqb, ne-eqb}
 use Rattle.base.proofs.Test.{by-ltb}
-use Rattle.queue.specs.Ring.{partOf, olderRun, newerRun, content, stored, wrapped, storedBehind}
+use Rattle.queue.specs.Ring.{partOf, behind, partPlace, olderRun, newerRun, content, stored, wrapped, storedBehind}
 
 -- a part to the end
 pub rest-all : (l : List ℕ) (a : ℕ) → take (length l - a) (drop a l) ≡ drop a l
@@ -29,6 +29,23 @@ part-newer o n at h = rw (le-ltb at (length o) h) (rest-all n (at - length o))
 pub part-end : (o n : List ℕ) (at : ℕ) → length o ≤ at → length n ≤ at - length o → take (length n - length n) (drop (length n) n) ≡ partOf o n at
 unfolding partOf
 part-end o n at h k = rw (le-ltb at (length o) h) (rest-all n (length n) ∙ drop-length n ∙ sym (drop-of-length-le n k))
+
+-- where a part of a slice lies, and where the three parts do
+pub behind-at : (p : ℕ × ℕ) (count : ℕ) → (p .0, count + p .1) ≡ behind p count
+behind-at p count = ap (λ (k : ℕ). (p .0, k)) (add-comm count (p .1))
+
+module _ (o n : ℕ × ℕ) (lo ln at : ℕ) where
+  pub place-older : at < lo → (o .0, at + o .1) ≡ partPlace o lo n ln at
+  unfolding partPlace
+  place-older h = rw (lt-ltb at lo h) (behind-at o at)
+
+  pub place-newer : lo ≤ at → at - lo < ln → (n .0, at - lo + n .1) ≡ partPlace o lo n ln at
+  unfolding partPlace
+  place-newer h k = rw (le-ltb at lo h, min-eq-left {n = at - lo} {m = ln} (omega arith)) (behind-at n (at - lo))
+
+  pub place-end : lo ≤ at → ln ≤ at - lo → (n .0, ln + n .1) ≡ partPlace o lo n ln at
+  unfolding partPlace
+  place-end h k = rw (le-ltb at lo h, min-eq-right {n = ln} {m = at - lo} k) (behind-at n ln)
 
 -- the first byte of a part is the byte of both runs at that offset
 pub part-head : (o n : List ℕ) (at : ℕ) → at < length o + length n

@@ -5,3 +5,4 @@ pub mod Block
 pub mod Code
 pub mod Decode
 pub mod Queue
+pub mod Answers

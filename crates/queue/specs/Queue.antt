@@ -1,4 +1,4 @@
--- The queue: what take, append and measure answer, and the list of blocks that the ring's bytes decode to.
+-- The queue: what take, append, measure and copy answer, and the list of blocks that the ring's bytes decode to.
 -- Document 01, "The queue's bytes": taking frees the block's bytes at once, the ring may become full to its last byte, and appending
 -- changes no byte but those of the new code.
 use mathlib.Core.Bool.{Bool, cond, _&&_}
@@ -14,9 +14,11 @@ use Rattle.queue.specs.declared.Appended.{Appended}
 use Rattle.queue.specs.declared.Appended.the-variants as A
 use Rattle.queue.specs.declared.Measured.{Measured}
 use Rattle.queue.specs.declared.Measured.the-variants as M
+use Rattle.queue.specs.declared.Copied.{Copied}
+use Rattle.queue.specs.declared.Copied.the-variants as C
 use Rattle.queue.specs.declared.read.Reading.{Reading}
 use Rattle.queue.specs.declared.read.Reading.the-variants as R
-use Rattle.queue.specs.Ring.{content, fitsRing, wrapped, storedBehind}
+use Rattle.queue.specs.Ring.{content, fitsRing, wrapped, stored, storedBehind}
 use Rattle.queue.specs.Block.{settled, remembered}
 use Rattle.queue.specs.Code.{encode, canQueue, indicesKnown}
 use Rattle.queue.specs.Decode.{decode}
@@ -63,21 +65,18 @@ changedBy A.Outside ring after = ring
 unfoldable pub appendedRing : List ℕ → ℕ → ℕ → ℕ → Last → Block → List ℕ
 appendedRing ring head used set back b = changedBy (appended (length ring) head used set back b) ring (storedBehind ring head used (codeOfKept set back b))
 
--- document 01's number for each answer, 0 where nothing is refused: a ring, a block or a memory that cannot be is damage
-abbrev pub takenNumber : Taken → ℕ
-takenNumber (T.Front b last head used) = 0
-takenNumber T.Damaged = 8
-takenNumber T.Outside = 8
+-- the bytes used copied to another ring of so many bytes, in which byte 0 is the head
+unfoldable pub copied : ℕ → ℕ → ℕ → ℕ → Copied
+copied len head used other = cond (fitsRing len head used) (cond (fitsRing other 0 used) C.Done C.NoRoom) C.Outside
 
-abbrev pub appendedNumber : Appended → ℕ
-appendedNumber (A.Done last used) = 0
-appendedNumber A.NoRoom = 6
-appendedNumber A.NotCodable = 8
-appendedNumber A.Outside = 8
+-- the other ring's bytes afterwards: changed only by what is done
+abbrev pub ifCopied : Copied → List ℕ → List ℕ → List ℕ
+ifCopied C.Done after before = after
+ifCopied C.NoRoom after before = before
+ifCopied C.Outside after before = before
 
-abbrev pub measuredNumber : Measured → ℕ
-measuredNumber (M.Bytes count last) = 0
-measuredNumber M.NotCodable = 8
+unfoldable pub copiedRing : List ℕ → ℕ → ℕ → List ℕ → List ℕ
+copiedRing ring head used other = ifCopied (copied (length ring) head used (length other)) (stored other 0 (content ring head used)) other
 
 -- the first so many blocks that bytes decode to, the reader remembering each: what a theorem calls the queue
 abbrev pub andThen : Reading → (Block → ℕ → List Block) → List Block

@@ -5,13 +5,22 @@
 --              [ free           | older run | free        ]     they do not: the newer run is empty
 use mathlib.Core.Bool.{Bool, _&&_, cond}
 use mathlib.Core.List.{List, [], _∷_, _++_}
-use Prim.Native.Nat.{ℕ, _+_, _-_}
+use Prim.Native.Nat.{ℕ, _+_, _-_, min}
 use lib.Dec.{leb, ltb, eqb}
 use lib.ListN.{length, take, drop, set}
 
 -- the bytes at an offset of the two runs: a part of the older to its end, past it a part of the newer to its end, which past both is empty
 unfoldable pub partOf : List ℕ → List ℕ → ℕ → List ℕ
 partOf older newer at = cond (ltb at (length older)) (drop at older) (drop (at - length older) newer)
+
+-- a place in memory, as its allocation and an offset, and the place so many bytes behind it
+abbrev pub behind : ℕ × ℕ → ℕ → ℕ × ℕ
+behind place count = (place .0, place .1 + count)
+
+-- where that part lies, by where the runs begin and their lengths: in the older, past it in the newer, and past both at the newer one's end
+unfoldable pub partPlace : ℕ × ℕ → ℕ → ℕ × ℕ → ℕ → ℕ → ℕ × ℕ
+partPlace older olderLength newer newerLength at =
+    cond (ltb at olderLength) (behind older at) (behind newer (min (at - olderLength) newerLength))
 
 -- the bytes from the head on, and those that go on at byte 0
 unfoldable pub olderRun : List ℕ → ℕ → ℕ → List ℕ

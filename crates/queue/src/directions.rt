@@ -53,6 +53,18 @@ pub fn direction_count(set: u8) -> u8
     xy + m + n + theta + t
 }
 
+// How many parameters are in use.
+pub fn parameter_count(set: u8) -> u8
+    ensures { λ r. ⌜ r ≡ length (usedOf set parameters) ⌝ }
+    ensures { λ r. ⌜ r ≤ 4 ⌝ }
+{
+    let m = count_of(set, Direction::M);
+    let n = count_of(set, Direction::N);
+    let theta = count_of(set, Direction::Theta);
+    let t = count_of(set, Direction::T);
+    m + n + theta + t
+}
+
 // The direction that a block's direction byte names.
 pub fn direction_at(set: u8, at: u8) -> DirectionAt
     ensures { λ r. ⌜ r ≡ directionAt (directions set) at ⌝ }

@@ -7,7 +7,7 @@ ghost use lib.ListN.{length};
 ghost use Prim.Native.Nat.{_+_, _^_, _≤_, _<_};
 ghost use Rattle.queue.specs.Ring.{fitsRing, straightRoom};
 ghost use Rattle.queue.specs.Code.{placeCodable, Written};
-ghost use Rattle.queue.specs.Queue.{taken, codable, codeOfKept, measured, appended, appendedRing};
+ghost use Rattle.queue.specs.Queue.{taken, codable, codeOfKept, measured, appended, appendedRing, copied, copiedRing};
 use code::are_fine;
 use code::is_place;
 use code::put_block;
@@ -25,6 +25,7 @@ use ring::move_on;
 use ring::newer_run;
 use ring::older_run;
 use ring::store;
+use ring::store_runs;
 
 pub mod code;
 pub mod directions;
@@ -86,6 +87,15 @@ pub enum Measured {
     Bytes { count: usize, last: Last },
     // The block cannot be queued, or a remembered index is none that a block has.
     NotCodable,
+}
+
+// The queue's bytes copied to another ring.
+pub enum Copied {
+    Done,
+    // They do not fit the other ring, or it has no byte.
+    NoRoom,
+    // The head or the use does not fit the ring.
+    Outside,
 }
 
 // Whether head and use fit a ring of so many bytes.
@@ -284,4 +294,23 @@ fn append_kept(ring: &mut [u8], head: usize, used: usize, set: u8, back: Last, b
         last,
         used: used + count,
     }
+}
+
+// Copies the bytes used to another ring, longer or shorter, from its byte 0 on; the bytes behind them stay.
+pub fn copy(ring: &[u8], head: usize, used: usize, other: &mut [u8]) -> Copied
+    ensures { λ r. ⌜ r ≡ copied (length (now (ring .entry))) head used (length (now (other .entry))) ⌝ }
+    ensures { λ r. ⌜ now (other .exit) ≡ copiedRing (now (ring .entry)) head used (now (other .entry)) ⌝ }
+{
+    if !fits_ring(ring.len(), head, used) {
+        return Copied::Outside;
+    }
+    if !fits_ring(other.len(), 0, used) {
+        return Copied::NoRoom;
+    }
+    store_runs(
+        other,
+        older_run(ring, head, used),
+        newer_run(ring, head, used),
+    );
+    Copied::Done
 }

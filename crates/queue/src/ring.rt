@@ -5,11 +5,12 @@ ghost use mathlib.Core.List.{_++_};
 ghost use Prim.Native.Nat.{_+_, _^_, _≤_, _<_};
 ghost use lib.ListN.{length, getD, take};
 ghost use lib.Seq.{sets};
-ghost use Rattle.queue.specs.Ring.{partOf, olderRun, newerRun, stored, wrapped};
+ghost use Rattle.queue.specs.Ring.{partOf, behind, partPlace, olderRun, newerRun, stored, wrapped};
 
-// The bytes at an offset of the two runs: a part of one of them, to that run's end.
+// The bytes at an offset of the two runs: a part of one of them, to that run's end. The contract says which bytes, and where they lie.
 pub fn part<'a>(older: &'a [u8], newer: &'a [u8], at: usize) -> &'a [u8]
     ensures { λ r. ⌜ now r ≡ partOf (now (older .entry)) (now (newer .entry)) at ⌝ }
+    ensures { λ r. ⌜ r .ptr ≡ partPlace (older .entry .ptr) (length (now (older .entry))) (newer .entry .ptr) (length (now (newer .entry))) at ⌝ }
 {
     if at < older.len() {
         return &older[at..];
@@ -35,6 +36,7 @@ pub(crate) fn byte_at<'a>(older: &'a [u8], newer: &'a [u8], at: usize) -> u8
 pub(crate) fn older_run(ring: &[u8], head: usize, used: usize) -> &[u8]
     requires { ⌜ (head ≤ length (now ring)) × (used ≤ length (now ring)) ⌝ }
     ensures { λ r. ⌜ now r ≡ olderRun (now (ring .entry)) head used ⌝ }
+    ensures { λ r. ⌜ r .ptr ≡ behind (ring .entry .ptr) head ⌝ }
 {
     let room = ring.len() - head;
     if used <= room {
@@ -47,6 +49,7 @@ pub(crate) fn older_run(ring: &[u8], head: usize, used: usize) -> &[u8]
 pub(crate) fn newer_run(ring: &[u8], head: usize, used: usize) -> &[u8]
     requires { ⌜ (head ≤ length (now ring)) × (used ≤ length (now ring)) ⌝ }
     ensures { λ r. ⌜ now r ≡ newerRun (now (ring .entry)) head used ⌝ }
+    ensures { λ r. ⌜ r .ptr ≡ ring .entry .ptr ⌝ }
 {
     let room = ring.len() - head;
     if used <= room {
@@ -101,4 +104,13 @@ fn store_round(ring: &mut [u8], from: usize, source: &[u8], count: usize)
             p = 0;
         }
     }
+}
+
+// Stores both runs from byte 0 on, one behind the other.
+pub(crate) fn store_runs<'a>(ring: &mut [u8], older: &'a [u8], newer: &'a [u8])
+    requires { ⌜ length (now older) + length (now newer) ≤ length (now ring) ⌝ }
+    ensures { λ _. ⌜ now (ring .exit) ≡ sets (now (ring .entry)) 0 (now (older .entry) ++ now (newer .entry)) ⌝ }
+{
+    store_straight(ring, 0, older, older.len());
+    store_straight(ring, older.len(), newer, newer.len());
 }

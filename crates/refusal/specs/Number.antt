@@ -1,4 +1,4 @@
--- Document 01, "Numbers of refusal": the number of each refusal.
+-- Document 01, "Numbers of refusal": the number of each refusal, and of an answer that says yes or no.
 use mathlib.Core.Bool.{Bool, true, false}
 use Prim.Native.Nat.{ℕ}
 use Rattle.refusal.specs.declared.Refusal.{Refusal}
@@ -27,3 +27,14 @@ number R.Sheet = 14
 abbrev pub answered : Bool → Whether
 answered true = W.Yes
 answered false = W.No
+
+-- the number of such an answer, 0 where the question was answered, and its value: 1 for yes, 0 for no and for none
+abbrev pub whetherNumber : Whether → ℕ
+whetherNumber W.Yes = 0
+whetherNumber W.No = 0
+whetherNumber (W.Refused why) = number why
+
+abbrev pub whetherValue : Whether → ℕ
+whetherValue W.Yes = 1
+whetherValue W.No = 0
+whetherValue (W.Refused why) = 0

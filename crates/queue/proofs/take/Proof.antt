@@ -42,36 +42,45 @@ remember-requires c κs = search needs
 
 move-on-requires : tie.Need-move-on-requires
 move-on-requires c κs =
-    let a = c .before .before .before .before .before .before .before .before .before .before .args in
-    let e = sym (c .before .before .before .before .before .before .before .before .fits-ring .ensures) ∙ granted _ (c .before .before .before .before .before .before .before .if1 .left) in
+    let read = c .before .before .before .before in
+    let fit = read .before .before .before .before in
+    let a = fit .before .before .args in
+    let e = sym (fit .fits-ring .ensures) ∙ granted _ (read .before .before .before .if1 .left) in
     let f = fits-both _ _ _ e in
     let g = c .before .before .block .given in
-    let i = taken-inside (a .ring .now) (a .head) (a .used) (a .set) (a .front) _ _ (g .0 .0) (g .0 .1 .0) e (c .before .before .before .before .before .before .older-run .ensures) (c .before .before .before .before .before .newer-run .ensures)
-    (sym (g .1) ∙ c .before .before .before .before .read-block .ensures) in
-    (f .0, omega (arith, f .1, i), omega (arith, c .before .before .before .before .before .before .before .before .before .before))
+    let i =
+    taken-inside (a .ring .now) (a .head) (a .used) (a .set) (a .front) _ _ (g .0 .0) (g .0 .1 .0) e
+    (read .before .before .older-run .ensures .0) (read .before .newer-run .ensures .0) (sym (g .1) ∙ read .read-block .ensures) in
+    (f .0, omega (arith, f .1, i), omega (arith, fit .before .before))
 
 sub-t17 : tie.Need-sub-t17
 sub-t17 c =
-    let a = c .before .before .before .before .before .before .before .before .before .before .before .args in
-    let e = sym (c .before .before .before .before .before .before .before .before .before .fits-ring .ensures) ∙ granted _ (c .before .before .before .before .before .before .before .before .if1 .left) in
+    let read = c .before .before .before .before .before in
+    let fit = read .before .before .before .before in
+    let a = fit .before .before .args in
+    let e = sym (fit .fits-ring .ensures) ∙ granted _ (read .before .before .before .if1 .left) in
     let g = c .before .before .before .block .given in
-    taken-inside (a .ring .now) (a .head) (a .used) (a .set) (a .front) _ _ (g .0 .0) (g .0 .1 .0) e (c .before .before .before .before .before .before .before .older-run .ensures) (c .before .before .before .before .before .before .newer-run .ensures)
-    (sym (g .1) ∙ c .before .before .before .before .before .read-block .ensures)
+    taken-inside (a .ring .now) (a .head) (a .used) (a .set) (a .front) _ _ (g .0 .0) (g .0 .1 .0) e
+    (read .before .before .older-run .ensures .0) (read .before .newer-run .ensures .0) (sym (g .1) ∙ read .read-block .ensures)
 
 returns-2 : tie.Need-returns-2
 returns-2 c =
-    let a = c .before .before .before .before .before .before .before .before .args in
+    let read = c .before .before in
+    let fit = read .before .before .before .before in
+    let a = fit .before .before .args in
     ap (takenWith _ (a .head) (a .used)) (sym (c .enum-told .given .1))
-    ∙ taken-read (a .ring .now) (a .head) (a .used) (a .set) (a .front) _ _ _ (sym (c .before .before .before .before .before .before .fits-ring .ensures) ∙ granted _ (c .before .before .before .before .before .if1 .left))
-    (c .before .before .before .before .older-run .ensures) (c .before .before .before .newer-run .ensures) (c .before .before .read-block .ensures)
+    ∙ taken-read (a .ring .now) (a .head) (a .used) (a .set) (a .front) _ _ _ (sym (fit .fits-ring .ensures) ∙ granted _ (read .before .before .before .if1 .left))
+    (read .before .before .older-run .ensures .0) (read .before .newer-run .ensures .0) (read .read-block .ensures)
 
 returns-3 : tie.Need-returns-3
 returns-3 c =
-    let a = c .before .before .before .before .before .before .before .before .before .before .before .args in
+    let read = c .before .before .before .before .before in
+    let fit = read .before .before .before .before in
+    let a = fit .before .before .args in
     rw (c .before .remember .ensures, c .move-on .ensures .0)
     (ap (takenWith _ (a .head) (a .used)) (sym (c .before .before .before .block .given .1))
-    ∙ taken-read (a .ring .now) (a .head) (a .used) (a .set) (a .front) _ _ _ (sym (c .before .before .before .before .before .before .before .before .before .fits-ring .ensures) ∙ granted _ (c .before .before .before .before .before .before .before .before .if1 .left))
-    (c .before .before .before .before .before .before .before .older-run .ensures) (c .before .before .before .before .before .before .newer-run .ensures) (c .before .before .before .before .before .read-block .ensures))
+    ∙ taken-read (a .ring .now) (a .head) (a .used) (a .set) (a .front) _ _ _ (sym (fit .fits-ring .ensures) ∙ granted _ (read .before .before .before .if1 .left))
+    (read .before .before .older-run .ensures .0) (read .before .newer-run .ensures .0) (read .read-block .ensures))
 
 pub take-spec : {M : Type 1} → statement M
 take-spec =

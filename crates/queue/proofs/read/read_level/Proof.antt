@@ -15,7 +15,7 @@ part-requires c κs = search needs
 returns : tie.Need-returns
 returns c =
     let a = c .before .before .before .before .args in
-    level-none (a .older .now) (a .newer .now) (a .at) (ap length (sym (c .before .part .ensures)) ∙ c .if1 .taken)
+    level-none (a .older .now) (a .newer .now) (a .at) (ap length (sym (c .before .part .ensures .0)) ∙ c .if1 .taken)
 
 shared-slice-read-level-of : tie.Need-shared-slice-read-level-of
 shared-slice-read-level-of c = search needs
@@ -26,7 +26,7 @@ level-of-requires c κs = search needs
 returns-2 : tie.Need-returns-2
 returns-2 c =
     let a = c .before .before .before .before .before .before .args in
-    let e = c .before .before .before .part .ensures in
+    let e = c .before .before .before .part .ensures .0 in
     c .level-of .ensures ∙ ap (λ (l : List ℕ). levelOf (getD l 0 0)) e
     ∙ level-some (a .older .now) (a .newer .now) (a .at) (λ q. c .before .before .if1 .left (ap length e ∙ q))
 

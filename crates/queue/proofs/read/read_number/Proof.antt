@@ -27,7 +27,7 @@ returns : tie.Need-returns
 returns c =
     let a = c .before .before .before .before .before .before .before .args in
     let g = c .before .near .given in
-    number-near (a .older .now) (a .newer .now) (a .at) (g .0 .0) (g .0 .1 .0) (sym (g .1) ∙ c .before .before .before .read-small .ensures ∙ ap readSmall (c .before .before .before .before .part .ensures))
+    number-near (a .older .now) (a .newer .now) (a .at) (g .0 .0) (g .0 .1 .0) (sym (g .1) ∙ c .before .before .before .read-small .ensures ∙ ap readSmall (c .before .before .before .before .part .ensures .0))
 
 returns-2 : tie.Need-returns-2
 returns-2 c =

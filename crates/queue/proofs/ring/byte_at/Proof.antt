@@ -10,12 +10,12 @@ part-requires c κs = search needs
 shared-slice-read-result : tie.Need-shared-slice-read-result
 shared-slice-read-result c =
     let a = c .before .before .before .before .args in
-    rw (c .before .part .ensures) (part-head (a .older .now) (a .newer .now) (a .at) (c .before .before .before .before .pre) .0)
+    rw (c .before .part .ensures .0) (part-head (a .older .now) (a .newer .now) (a .at) (c .before .before .before .before .pre) .0)
 
 returns : tie.Need-returns
 returns c =
     let a = c .before .before .before .before .args in
-    rw (c .before .part .ensures) (part-head (a .older .now) (a .newer .now) (a .at) (c .before .before .before .before .pre) .1)
+    rw (c .before .part .ensures .0) (part-head (a .older .now) (a .newer .now) (a .at) (c .before .before .before .before .pre) .1)
 
 pub byte-at-spec : {M : Type 1} → statement M
 byte-at-spec = tie.close (tie.spec part-requires shared-slice-read-result returns)

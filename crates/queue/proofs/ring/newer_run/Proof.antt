@@ -1,5 +1,5 @@
 -- `newer_run` meets its contract. Assumes nothing.
-use mathlib.Core.Path.{_≡_}
+use mathlib.Core.Path.{_≡_, refl}
 use Prim.Native.Nat.{_+_, _-_}
 use native.Mathlib.Omega.{arith}
 use borrow.Author.Needs.{needs}
@@ -16,7 +16,7 @@ slice-aggregate-result c = search needs
 
 returns : tie.Need-returns
 unfolding newerRun
-returns c = let a = c .before .before .args in let e : a .head + a .used - length (a .ring .now) ≡ 0 = omega arith in rw e
+returns c = let a = c .before .before .args in let e : a .head + a .used - length (a .ring .now) ≡ 0 = omega arith in (rw e, refl)
 
 sub-more : tie.Need-sub-more
 sub-more c = search needs
@@ -28,7 +28,7 @@ returns-2 : tie.Need-returns-2
 unfolding newerRun
 returns-2 c =
     let a = c .before .before .args in
-    let e : a .head + a .used - length (a .ring .now) ≡ a .used - (length (a .ring .now) - a .head) = omega arith in rw e
+    let e : a .head + a .used - length (a .ring .now) ≡ a .used - (length (a .ring .now) - a .head) = omega arith in (rw e, refl)
 
 pub newer-run-spec : {M : Type 1} → statement M
 newer-run-spec =

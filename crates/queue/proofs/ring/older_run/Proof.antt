@@ -6,7 +6,7 @@ use borrow.Author.Needs.{needs}
 use lib.ListN.{drop, length-drop}
 use lib.Seq.{take-all}
 use Rattle.queue.specs.Ring.{olderRun}
-use Rattle.queue.proofs.RingLaws.{rest-all}
+use Rattle.queue.proofs.RingLaws.{rest-all, behind-at}
 use Rattle.queue.proofs.ring.older_run.Statement.{statement}
 use Rattle.queue.proofs.ring.older_run.Tie as tie
 
@@ -27,7 +27,10 @@ part-result-end c = search needs
 
 returns : tie.Need-returns
 unfolding olderRun
-returns c = let a = c .before .before .args in let e : a .head + a .used - a .head ≡ a .used = omega arith in rw e
+returns c =
+    let a = c .before .before .args in
+    let e : a .head + a .used - a .head ≡ a .used = omega arith in
+    (rw e, behind-at (a .ring .ptr) (a .head))
 
 sub-result-2 : tie.Need-sub-result-2
 sub-result-2 c = search needs
@@ -41,8 +44,10 @@ part-result-end-2 c = search needs
 returns-2 : tie.Need-returns-2
 unfolding olderRun
 returns-2 c =
-    let a = c .before .before .args in
-    rest-all (a .ring .now) (a .head) ∙ sym (take-all (a .used) (drop (a .head) (a .ring .now)) (simp length-drop (omega arith)))
+    let a = c .before .before .args in (
+      rest-all (a .ring .now) (a .head) ∙ sym (take-all (a .used) (drop (a .head) (a .ring .now)) (simp length-drop (omega arith))),
+      behind-at (a .ring .ptr) (a .head),
+    )
 
 pub older-run-spec : {M : Type 1} → statement M
 older-run-spec =

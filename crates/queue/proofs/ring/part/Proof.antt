@@ -1,6 +1,6 @@
--- `part` meets its contract: each of its three answers is a law of `RingLaws`. Assumes nothing.
+-- `part` meets its contract: each of its three answers is a law of `RingLaws`, and so is where it lies. Assumes nothing.
 use borrow.Author.Needs.{needs}
-use Rattle.queue.proofs.RingLaws.{part-older, part-newer, part-end}
+use Rattle.queue.proofs.RingLaws.{part-older, part-newer, part-end, place-older, place-newer, place-end}
 use Rattle.queue.proofs.ring.part.Statement.{statement}
 use Rattle.queue.proofs.ring.part.Tie as tie
 
@@ -14,7 +14,10 @@ part-result-end : tie.Need-part-result-end
 part-result-end c = search needs
 
 returns : tie.Need-returns
-returns c = let a = c .before .before .args in part-older (a .older .now) (a .newer .now) (a .at) (c .before .if1 .taken)
+returns c =
+    let a = c .before .before .args in
+    let h = c .before .if1 .taken in
+    (part-older (a .older .now) (a .newer .now) (a .at) h, place-older (a .older .ptr) (a .newer .ptr) _ _ (a .at) h)
 
 sub-off : tie.Need-sub-off
 sub-off c = search needs
@@ -29,7 +32,10 @@ part-result-end-2 : tie.Need-part-result-end-2
 part-result-end-2 c = search needs
 
 returns-2 : tie.Need-returns-2
-returns-2 c = let a = c .before .before .before .args in part-newer (a .older .now) (a .newer .now) (a .at) (c .before .before .if1 .left)
+returns-2 c =
+    let a = c .before .before .before .args in
+    let h = c .before .before .if1 .left in
+    (part-newer (a .older .now) (a .newer .now) (a .at) h, place-newer (a .older .ptr) (a .newer .ptr) _ _ (a .at) h (c .before .if2 .taken))
 
 sub-result-3 : tie.Need-sub-result-3
 sub-result-3 c = search needs
@@ -43,7 +49,9 @@ part-result-end-3 c = search needs
 returns-3 : tie.Need-returns-3
 returns-3 c =
     let a = c .before .before .before .args in
-    part-end (a .older .now) (a .newer .now) (a .at) (c .before .before .if1 .left) (c .before .if2 .left)
+    let h = c .before .before .if1 .left in
+    let k = c .before .if2 .left in
+    (part-end (a .older .now) (a .newer .now) (a .at) h k, place-end (a .older .ptr) (a .newer .ptr) _ _ (a .at) h k)
 
 pub part-spec : {M : Type 1} → statement M
 part-spec =
