@@ -1,7 +1,8 @@
 -- How the engine's answers cross to other languages: as records that begin with the refusal, 0 or document 01's number. What was refused has blank
--- values beside its number; a refused step or run hands back the record that it was given.
+-- values beside its number; a refused step, run or move hands back the record that it was given.
+use mathlib.Core.Path.{_≡_}
 use mathlib.Core.Bool.{cond, _&&_}
-use mathlib.Core.List.{map}
+use mathlib.Core.List.{List, map}
 use Prim.Native.Nat.{ℕ, _*_}
 use Rattle.refusal.specs.Number.{number}
 use Rattle.refusal.specs.declared.Refusal.the-variants as R
@@ -10,6 +11,8 @@ use Rattle.coordinate.specs.Axis.{level}
 use Rattle.queue.specs.declared.Block.{Block}
 use Rattle.decide.specs.Damage.{legalSide}
 use Rattle.implicit.specs.declared.state.Needed.{Needed}
+use Rattle.implicit.specs.declared.state.State.{State}
+use Rattle.implicit.specs.declared.state.Moved.{Moved}
 use Rattle.implicit.specs.declared.state.Started.{Started}
 use Rattle.implicit.specs.declared.state.Stepped.{Stepped}
 use Rattle.implicit.specs.declared.state.Ending.{Ending}
@@ -18,10 +21,13 @@ use Rattle.implicit.specs.declared.state.Ran.{Ran}
 use Rattle.implicit.specs.declared.state.Ran.the-variants as N
 use Rattle.implicit.specs.declared.state.Listed.{Listed}
 use Rattle.implicit.specs.declared.state.Counted.{Counted}
-use Rattle.implicit.specs.Answers.{setupNumber, setupState, neededNumber, neededBytes, stepNumber, stepState, stepEvaluations, stepVerdicts, runNumber, runState, runSteps, runEvaluations, runTape, runStop, childrenNumber, countsNumber, countsValues}
+use Rattle.implicit.specs.Step.{worldOf}
+use Rattle.implicit.specs.Move.{moveOf, moveAnswer, otherAfter}
+use Rattle.implicit.specs.Answers.{setupNumber, setupState, neededNumber, neededBytes, moveNumber, moveState, stepNumber, stepState, stepEvaluations, stepVerdicts, runNumber, runState, runSteps, runEvaluations, runTape, runStop, childrenNumber, countsNumber, countsValues}
 use Rattle.capi.specs.declared.plain.Place.{Place}
 use Rattle.capi.specs.declared.plain.Child.{Child}
 use Rattle.capi.specs.declared.plain.SetupTold.{SetupTold}
+use Rattle.capi.specs.declared.plain.MoveTold.{MoveTold}
 use Rattle.capi.specs.declared.plain.ChildrenTold.{ChildrenTold}
 use Rattle.capi.specs.declared.plain.StepTold.{StepTold}
 use Rattle.capi.specs.declared.plain.RunTold.{RunTold}
@@ -33,13 +39,22 @@ abbrev pub cellsTold : ℕ → ℕ → NumberTold
 cellsTold width height =
     cond (legalSide width && legalSide height) (record { refusal = 0; value = width * height }) (record { refusal = number R.Side; value = 0 })
 
--- the least ring
+-- the least ring, and one that is enough
 abbrev pub neededTold : Needed → NumberTold
 neededTold a = record { refusal = neededNumber a; value = neededBytes a }
 
 -- setup
 abbrev pub setupTold : Started → SetupTold
 setupTold a = record { refusal = setupNumber a; state = setupState a }
+
+-- move
+abbrev pub moveTold : Moved → MoveTold
+moveTold a = record { refusal = moveNumber a; state = moveState a }
+
+-- what crosses of a move, with the other ring afterwards, whatever the cells are: the call is not lent them
+abbrev pub MoveToldAs : State → List ℕ → List ℕ → MoveTold → List ℕ → Type 0
+MoveToldAs s ring other r after =
+    (cells : List ℕ) → (r ≡ moveTold (moveAnswer s (moveOf (worldOf s ring cells) other))) × (after ≡ otherAfter other (moveOf (worldOf s ring cells) other))
 
 -- step
 abbrev pub stepTold : Stepped → StepTold

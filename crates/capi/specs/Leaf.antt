@@ -1,26 +1,23 @@
--- How the leaves' answers cross to other languages, and how a coordinate comes in: with document 01's signed level.
-use mathlib.Core.Bool.{false, cond}
-use mathlib.Core.List.{[], _∷_}
+-- How the leaves' answers cross to other languages, by the numbers and values that their crates define, and how a coordinate comes in: with document 01's
+-- signed level.
+use mathlib.Core.Bool.{cond}
+use mathlib.Core.List.{List, [], _∷_}
 use Prim.Native.Nat.{ℕ, _+_, _-_}
 use lib.Dec.{ltb}
 use lib.IntN.{ℤ, pos, negsuc}
-use lib.Ieee.{fin}
-use Rattle.refusal.specs.Number.{number}
 use Rattle.refusal.specs.declared.Whether.{Whether}
-use Rattle.refusal.specs.declared.Whether.the-variants as W
 use Rattle.coordinate.specs.declared.Coordinate.{Coordinate}
 use Rattle.coordinate.specs.declared.PixelAnswer.{PixelAnswer}
-use Rattle.coordinate.specs.declared.PixelAnswer.the-variants as X
 use Rattle.coordinate.specs.declared.Halved.{Halved}
-use Rattle.coordinate.specs.declared.Halved.the-variants as H
 use Rattle.interval.specs.declared.Point.{Point}
-use Rattle.interval.specs.declared.Point.the-variants as P
 use Rattle.interval.specs.declared.Pieces.{Pieces}
-use Rattle.interval.specs.declared.Pieces.the-variants as C
 use Rattle.small.specs.declared.Coded.{Coded}
-use Rattle.small.specs.declared.Coded.the-variants as K
 use Rattle.small.specs.declared.SmallRead.{SmallRead}
-use Rattle.small.specs.declared.SmallRead.the-variants as S
+use Rattle.interval.specs.declared.Interval.{Interval}
+use Rattle.refusal.specs.Number.{whetherNumber, whetherValue}
+use Rattle.coordinate.specs.Answers.{pixelNumber, pixelValue, halvedNumber, halvedLow, halvedHigh}
+use Rattle.interval.specs.Answers.{pointNumber, pointValue, piecesNumber, piecesOf, piecesCount}
+use Rattle.small.specs.Answers.{codedNumber, codedHead, codedTail, codedCount, smallReadNumber, smallReadValue, smallReadCount}
 use Rattle.queue.specs.Block.{wholeLine}
 use Rattle.capi.specs.declared.plain.Place.{Place}
 use Rattle.capi.specs.declared.plain.NumberTold.{NumberTold}
@@ -39,43 +36,39 @@ rankOf (negsuc n) = cond (ltb n 48) (47 - n) 64
 abbrev pub rankedAt : Place → Coordinate
 rankedAt c = record { index = c .index; rank = rankOf (c .level) }
 
--- a point; +0 where it is refused
+-- a point
 abbrev pub pointTold : Point → PointTold
-pointTold (P.At x) = record { refusal = 0; value = x }
-pointTold (P.Refused why) = record { refusal = number why; value = fin false 0 (pos 0) }
+pointTold a = record { refusal = pointNumber a; value = pointValue a }
 
--- yes is 1, no is 0
+-- yes or no
 abbrev pub whetherTold : Whether → NumberTold
-whetherTold W.Yes = record { refusal = 0; value = 1 }
-whetherTold W.No = record { refusal = 0; value = 0 }
-whetherTold (W.Refused why) = record { refusal = number why; value = 0 }
+whetherTold a = record { refusal = whetherNumber a; value = whetherValue a }
 
 -- one to three pieces; the places behind them hold the whole line
+abbrev pub threePlaces : List Interval → List Interval
+threePlaces [] = wholeLine ∷ wholeLine ∷ wholeLine ∷ []
+threePlaces (p ∷ []) = p ∷ wholeLine ∷ wholeLine ∷ []
+threePlaces (p ∷ q ∷ []) = p ∷ q ∷ wholeLine ∷ []
+threePlaces (p ∷ q ∷ r ∷ l) = p ∷ q ∷ r ∷ []
+
 abbrev pub piecesTold : Pieces → PiecesTold
-piecesTold (C.One p) = record { refusal = 0; count = 1; at = p ∷ wholeLine ∷ wholeLine ∷ [] }
-piecesTold (C.Two p q) = record { refusal = 0; count = 2; at = p ∷ q ∷ wholeLine ∷ [] }
-piecesTold (C.Three p q r) = record { refusal = 0; count = 3; at = p ∷ q ∷ r ∷ [] }
-piecesTold (C.Refused why) = record { refusal = number why; count = 0; at = wholeLine ∷ wholeLine ∷ wholeLine ∷ [] }
+piecesTold a = record { refusal = piecesNumber a; count = piecesCount a; at = threePlaces (piecesOf a) }
 
 -- a small number's code
 abbrev pub codeTold : Coded → CodeTold
-codeTold (K.Code head tail count) = record { refusal = 0; head = head; tail = tail; count = count }
-codeTold (K.Refused why) = record { refusal = number why; head = 0; tail = 0; count = 0 }
+codeTold a = record { refusal = codedNumber a; head = codedHead a; tail = codedTail a; count = codedCount a }
 
 -- a small number read
 abbrev pub readTold : SmallRead → ReadTold
-readTold (S.Number x count) = record { refusal = 0; value = x; count = count }
-readTold (S.Refused why) = record { refusal = number why; value = 0; count = 0 }
+readTold a = record { refusal = smallReadNumber a; value = smallReadValue a; count = smallReadCount a }
 
 -- a pixel
 abbrev pub pixelTold : PixelAnswer → NumberTold
-pixelTold (X.At p) = record { refusal = 0; value = p }
-pixelTold (X.Refused why) = record { refusal = number why; value = 0 }
+pixelTold a = record { refusal = pixelNumber a; value = pixelValue a }
 
 -- two halves
 abbrev pub blankPlace : Place
 blankPlace = record { index = 0; level = pos 0 }
 
 abbrev pub halvesTold : Halved → HalvesTold
-halvesTold (H.Halves low high) = record { refusal = 0; low = placeOf low; high = placeOf high }
-halvesTold (H.Refused why) = record { refusal = number why; low = blankPlace; high = blankPlace }
+halvesTold a = record { refusal = halvedNumber a; low = placeOf (halvedLow a); high = placeOf (halvedHigh a) }

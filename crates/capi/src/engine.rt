@@ -1,17 +1,19 @@
-// The engine's six entries, and what a caller asks before a setup: how many cells, and how long a ring.
+// The engine's entries, and what a caller asks before a setup: how many cells, and how long a ring.
 ghost use mathlib.Core.Path.{_≡_};
 ghost use mathlib.Core.Bool.{_&&_};
 ghost use lib.ListN.{length};
 ghost use Rattle.decide.specs.Damage.{legalSide};
 ghost use Rattle.implicit.specs.Listing.{childrenListed};
+ghost use Rattle.implicit.specs.Room.{enoughRing};
 ghost use Rattle.implicit.specs.Run.{runOf, runAnswer, worldRun};
-ghost use Rattle.implicit.specs.Setup.{startedAnswer, ringBegun, cellsBegun, pictureOf, leastRing};
+ghost use Rattle.implicit.specs.Setup.{startedAnswer, ringBegun, cellsBegun, cleared, leastRing};
 ghost use Rattle.implicit.specs.Step.{worldOf, stepOf, stepAnswer, worldAfter};
 ghost use Rattle.implicit.specs.View.{pictureAnswer, pictureLeft, ifDrawn, countsAnswer};
 ghost use Rattle.implicit.specs.Answers.{drawnNumber};
-ghost use Rattle.capi.specs.Engine.{setupTold, childrenTold, stepTold, runTold, countsTold, cellsTold, neededTold};
+ghost use Rattle.capi.specs.Engine.{setupTold, childrenTold, stepTold, runTold, countsTold, cellsTold, neededTold, MoveToldAs};
 use crate::plain::ChildrenTold;
 use crate::plain::CountsTold;
+use crate::plain::MoveTold;
 use crate::plain::NumberTold;
 use crate::plain::RunTold;
 use crate::plain::SetupTold;
@@ -19,10 +21,12 @@ use crate::plain::StepTold;
 use crate::told::tell_children;
 use crate::told::tell_counts;
 use crate::told::tell_drawn;
+use crate::told::tell_move;
 use crate::told::tell_needed;
 use crate::told::tell_run;
 use crate::told::tell_setup;
 use crate::told::tell_step;
+use decide::Chosen;
 use implicit::state::Ranges;
 use implicit::state::State;
 
@@ -52,32 +56,33 @@ fn are_legal_sides(width: u32, height: u32) -> bool
 
 // The shortest ring with which a setup is not refused by 6; what later steps need is not promised.
 #[no_mangle]
-pub extern "C" fn smyrilox_least_ring(
-    width: u32,
-    height: u32,
-    set: u8,
-    ranges: Ranges,
-) -> NumberTold
-    ensures { λ r. ⌜ r ≡ neededTold (leastRing (pictureOf width height set) ranges) ⌝ }
+pub extern "C" fn smyrilox_least_ring(chosen: Chosen, ranges: Ranges) -> NumberTold
+    ensures { λ r. ⌜ r ≡ neededTold (leastRing chosen ranges) ⌝ }
 {
-    tell_needed(implicit::begin::least_ring(width, height, set, ranges))
+    tell_needed(implicit::begin::least_ring(chosen, ranges))
+}
+
+// A ring with which none of the first `steps` steps from the setup is refused by 6.
+#[no_mangle]
+pub extern "C" fn smyrilox_enough_ring(chosen: Chosen, ranges: Ranges, steps: u32) -> NumberTold
+    ensures { λ r. ⌜ r ≡ neededTold (enoughRing chosen ranges steps) ⌝ }
+{
+    tell_needed(implicit::room::enough_ring(chosen, ranges, steps))
 }
 
 // Begins a picture over a ring and cells.
 #[no_mangle]
 pub extern "C" fn smyrilox_setup(
-    width: u32,
-    height: u32,
-    set: u8,
+    chosen: Chosen,
     ranges: Ranges,
     ring: &mut [u8],
     cells: &mut [u64],
 ) -> SetupTold
-    ensures { λ r. ⌜ r ≡ setupTold (startedAnswer (pictureOf width height set) ranges (length (now (ring .entry))) (length (now (cells .entry)))) ⌝ }
-    ensures { λ r. ⌜ now (ring .exit) ≡ ringBegun (pictureOf width height set) ranges (now (ring .entry)) (now (cells .entry)) ⌝ }
-    ensures { λ r. ⌜ now (cells .exit) ≡ cellsBegun (pictureOf width height set) ranges (now (ring .entry)) (now (cells .entry)) ⌝ }
+    ensures { λ r. ⌜ r ≡ setupTold (startedAnswer (cleared chosen) ranges (length (now (ring .entry))) (length (now (cells .entry)))) ⌝ }
+    ensures { λ r. ⌜ now (ring .exit) ≡ ringBegun (cleared chosen) ranges (now (ring .entry)) (now (cells .entry)) ⌝ }
+    ensures { λ r. ⌜ now (cells .exit) ≡ cellsBegun (cleared chosen) ranges (now (ring .entry)) (now (cells .entry)) ⌝ }
 {
-    tell_setup(implicit::begin::setup(width, height, set, ranges, ring, cells))
+    tell_setup(implicit::begin::setup(chosen, ranges, ring, cells))
 }
 
 // The children of the front block.
@@ -117,6 +122,14 @@ pub extern "C" fn smyrilox_run(
     ensures { λ r. ⌜ now (cells .exit) ≡ worldRun (worldOf state (now (ring .entry)) (now (cells .entry))) (runOf budget (worldOf state (now (ring .entry)) (now (cells .entry))) (now (tape .entry))) .cells ⌝ }
 {
     tell_run(implicit::go::run(state, ring, cells, tape, budget))
+}
+
+// Moves the queue to another ring.
+#[no_mangle]
+pub extern "C" fn smyrilox_move_queue(state: State, ring: &[u8], other: &mut [u8]) -> MoveTold
+    ensures { λ r. ⌜ MoveToldAs state (now (ring .entry)) (now (other .entry)) r (now (other .exit)) ⌝ }
+{
+    tell_move(implicit::room::move_queue(state, ring, other))
 }
 
 // The picture's bytes; the answer is the refusal, or 0.

@@ -28,6 +28,13 @@ pub struct SetupTold {
     pub state: State,
 }
 
+// A move's answer.
+#[repr(C)]
+pub struct MoveTold {
+    pub refusal: u64,
+    pub state: State,
+}
+
 // The children listed, the first `count` of four.
 #[repr(C)]
 pub struct ChildrenTold {

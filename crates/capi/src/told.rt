@@ -3,22 +3,24 @@ ghost use mathlib.Core.Path.{_≡_};
 ghost use Rattle.coordinate.specs.Axis.{level};
 ghost use Rattle.refusal.specs.Number.{number};
 ghost use Rattle.implicit.specs.Answers.{blankState, stopNumber, drawnNumber};
-ghost use Rattle.capi.specs.Engine.{placeOf, childOf, setupTold, childrenTold, stepTold, endingNumber, runTold, countsTold, neededTold};
+ghost use Rattle.capi.specs.Engine.{placeOf, childOf, setupTold, childrenTold, stepTold, endingNumber, runTold, countsTold, neededTold, moveTold};
 use crate::plain::Child;
 use crate::plain::ChildrenTold;
 use crate::plain::CountsTold;
+use crate::plain::MoveTold;
 use crate::plain::NumberTold;
 use crate::plain::Place;
 use crate::plain::RunTold;
 use crate::plain::SetupTold;
 use crate::plain::StepTold;
 use coordinate::Coordinate;
-use decide::Picture;
+use decide::Chosen;
 use implicit::state::Counted;
 use implicit::state::Counts;
 use implicit::state::Drawn;
 use implicit::state::Ending;
 use implicit::state::Listed;
+use implicit::state::Moved;
 use implicit::state::Needed;
 use implicit::state::Ran;
 use implicit::state::Started;
@@ -42,10 +44,13 @@ fn blank_state() -> State
 {
     let last = starting_last();
     State {
-        picture: Picture {
+        chosen: Chosen {
             width: 0,
             height: 0,
             set: 0,
+            reserved1: 0,
+            reserved2: 0,
+            reserved3: 0,
         },
         taken: 0,
         queued: 0,
@@ -81,6 +86,18 @@ pub(crate) fn tell_needed(a: Needed) -> NumberTold
         Needed::Refused(why) => NumberTold {
             refusal: tell_refusal(why),
             value: 0,
+        },
+    }
+}
+
+pub(crate) fn tell_move(a: Moved) -> MoveTold
+    ensures { λ r. ⌜ r ≡ moveTold a ⌝ }
+{
+    match a {
+        Moved::Done(state) => MoveTold { refusal: 0, state },
+        Moved::Refused { why, state } => MoveTold {
+            refusal: tell_refusal(why),
+            state,
         },
     }
 }

@@ -28,21 +28,21 @@ use Rattle.queue.specs.declared.directions.DirectionAt.{DirectionAt}
 use Rattle.queue.specs.declared.directions.DirectionAt.the-variants as A
 use Rattle.queue.specs.declared.directions.Direction.{Direction}
 use Rattle.queue.specs.Directions.{directions}
-use Rattle.decide.specs.declared.Picture.{Picture}
-use Rattle.decide.specs.Damage.{legalSide, legalPicture, directionOf, placeRight, cuttable, directionRight, parametersRight, undamaged, damageSeen, sound}
+use Rattle.decide.specs.declared.Chosen.{Chosen}
+use Rattle.decide.specs.Damage.{legalSide, legalChosen, directionOf, placeRight, cuttable, directionRight, parametersRight, undamaged, damageSeen, sound}
 
 -- BY THE TESTS THAT THE CODE MAKES
 
-pub legal-picture-as : (p : Picture) (w h : Bool) → w ≡ legalSide (p .width) → h ≡ legalSide (p .height) → (w && h && leb (p .set) 63) ≡ legalPicture p
-unfolding legalPicture
-legal-picture-as p w h e f = rw (e, f)
+pub legal-chosen-as : (p : Chosen) (w h : Bool) → w ≡ legalSide (p .width) → h ≡ legalSide (p .height) → (w && h && leb (p .set) 63) ≡ legalChosen p
+unfolding legalChosen
+legal-chosen-as p w h e f = rw (e, f)
 
-pub undamaged-as : (p : Picture) (b : Block) (x y d t : Bool) → x ≡ placeRight (p .width) (b .x) → y ≡ placeRight (p .height) (b .y)
+pub undamaged-as : (p : Chosen) (b : Block) (x y d t : Bool) → x ≡ placeRight (p .width) (b .x) → y ≡ placeRight (p .height) (b .y)
     → d ≡ directionRight p b (directionOf p b) → t ≡ parametersRight b → (eqb (b .x .rank) (b .y .rank) && x && y && d && t) ≡ undamaged p b
 unfolding undamaged
 undamaged-as p b x y d t e f g h = rw (e, f, g, h)
 
-pub damage-as : (p : Picture) (b : Block) (cells : List ℕ) (r : PixelRange) (s : Seen) → r ≡ rectangleOf (b .x) (b .y) (p .width) (p .height)
+pub damage-as : (p : Chosen) (b : Block) (cells : List ℕ) (r : PixelRange) (s : Seen) → r ≡ rectangleOf (b .x) (b .y) (p .width) (p .height)
     → s ≡ someSeen (p .width) (p .height) r K.Damaged cells → s ≡ damageSeen p b cells
 damage-as p b cells r s e f = f ∙ rw e
 
@@ -65,11 +65,11 @@ yes-placed side c =
 pub placed-as : (side : ℕ) (c : Coordinate) (w v : Whether) → w ≡ insideAsked ordinaryFloor c side → w ≡ v → isYes v ≡ placeRight side c
 placed-as side c w v e f = ap isYes (sym f ∙ e) ∙ yes-placed side c
 
-pub directed-along : (p : Picture) (b : Block) (a : DirectionAt) (d : Direction) (r : Bool) → a ≡ directionOf p b → a ≡ A.Along d → r ≡ cuttable b d
+pub directed-along : (p : Chosen) (b : Block) (a : DirectionAt) (d : Direction) (r : Bool) → a ≡ directionOf p b → a ≡ A.Along d → r ≡ cuttable b d
     → r ≡ directionRight p b (directionOf p b)
 directed-along p b a d r e f g = g ∙ ap (directionRight p b) (sym f ∙ e)
 
-pub directed-beyond : (p : Picture) (b : Block) (a : DirectionAt) (n : ℕ) → a ≡ directionOf p b → a ≡ A.Beyond → n ≡ length (directions (p .set))
+pub directed-beyond : (p : Chosen) (b : Block) (a : DirectionAt) (n : ℕ) → a ≡ directionOf p b → a ≡ A.Beyond → n ≡ length (directions (p .set))
     → (eqb n 0 && eqb (b .dir) 0) ≡ directionRight p b (directionOf p b)
 directed-beyond p b a n e f g = rw g (ap (directionRight p b) (sym f ∙ e))
 
@@ -81,16 +81,16 @@ four a b c d e =
     let ab = and-left (a && b) c abc in
     (and-left a b ab, and-right a b ab, and-right (a && b) c abc, and-right (a && b && c) d e)
 
-pub record LegalPicture (p : Picture) : Type 0 where
+pub record LegalChosen (p : Chosen) : Type 0 where
   pub width-some : 1 ≤ p .width
   pub width-most : p .width ≤ 32768
   pub height-some : 1 ≤ p .height
   pub height-most : p .height ≤ 32768
   pub set-most : p .set ≤ 63
 
-pub legal-picture : (p : Picture) → legalPicture p ≡ true → LegalPicture p
-unfolding legalPicture
-legal-picture p e =
+pub legal-chosen : (p : Chosen) → legalChosen p ≡ true → LegalChosen p
+unfolding legalChosen
+legal-chosen p e =
     let sides = and-left (legalSide (p .width) && legalSide (p .height)) (leb (p .set) 63) e in
     let w = and-left (legalSide (p .width)) (legalSide (p .height)) sides in
     let h = and-right (legalSide (p .width)) (legalSide (p .height)) sides in
@@ -128,14 +128,14 @@ legal-parameters b e =
 pub parameters-legal : (b : Block) → LegalParameters b → parametersRight b ≡ true
 parameters-legal b l = rw (l .m, l .n, l .theta, l .t)
 
-pub record Undamaged (p : Picture) (b : Block) : Type 0 where
+pub record Undamaged (p : Chosen) (b : Block) : Type 0 where
   pub ranks : b .x .rank ≡ b .y .rank
   pub x : Placed (p .width) (b .x)
   pub y : Placed (p .height) (b .y)
   pub directed : directionRight p b (directionOf p b) ≡ true
   pub parameters : LegalParameters b
 
-pub is-undamaged : (p : Picture) (b : Block) → undamaged p b ≡ true → Undamaged p b
+pub is-undamaged : (p : Chosen) (b : Block) → undamaged p b ≡ true → Undamaged p b
 unfolding undamaged
 is-undamaged p b e =
     let r = eqb (b .x .rank) (b .y .rank) in
@@ -151,22 +151,22 @@ is-undamaged p b e =
       parameters = legal-parameters b (and-right (r && x && y && d) (parametersRight b) e);
     }
 
-pub undamaged-is : (p : Picture) (b : Block) → Undamaged p b → undamaged p b ≡ true
+pub undamaged-is : (p : Chosen) (b : Block) → Undamaged p b → undamaged p b ≡ true
 unfolding undamaged
 undamaged-is p b u =
     rw (eq-eqb (b .x .rank) (b .y .rank) (u .ranks), place (p .width) (b .x) (u .x), place (p .height) (b .y) (u .y), u .directed, parameters-legal b (u .parameters))
 
 -- a legal picture and an undamaged block of it
-pub record Sound (p : Picture) (b : Block) : Type 0 where
-  pub picture : LegalPicture p
+pub record Sound (p : Chosen) (b : Block) : Type 0 where
+  pub chosen : LegalChosen p
   pub block : Undamaged p b
 
-pub is-sound : (p : Picture) (b : Block) → sound p b ≡ true → Sound p b
-is-sound p b e = record { picture = legal-picture p (and-left (legalPicture p) (undamaged p b) e); block = is-undamaged p b (and-right (legalPicture p) (undamaged p b) e) }
+pub is-sound : (p : Chosen) (b : Block) → sound p b ≡ true → Sound p b
+is-sound p b e = record { chosen = legal-chosen p (and-left (legalChosen p) (undamaged p b) e); block = is-undamaged p b (and-right (legalChosen p) (undamaged p b) e) }
 
 -- another undamaged block of the same picture
-pub sound-from : (p : Picture) (b d : Block) → sound p b ≡ true → undamaged p d ≡ true → sound p d ≡ true
-sound-from p b d e f = and-both (legalPicture p) (undamaged p d) (and-left (legalPicture p) (undamaged p b) e) f
+pub sound-from : (p : Chosen) (b d : Block) → sound p b ≡ true → undamaged p d ≡ true → sound p d ≡ true
+sound-from p b d e f = and-both (legalChosen p) (undamaged p d) (and-left (legalChosen p) (undamaged p b) e) f
 
 -- the whole line is legal for every parameter
 pub line-legal : (x : Interval) (integer : Bool) → sameInterval x wholeLine ≡ true → legalInterval x integer ≡ true

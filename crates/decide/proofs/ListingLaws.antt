@@ -30,7 +30,7 @@ use Rattle.queue.specs.declared.directions.Direction.the-variants as D
 use Rattle.queue.specs.declared.directions.DirectionAt.{DirectionAt}
 use Rattle.queue.specs.declared.directions.DirectionAt.the-variants as A
 use Rattle.queue.specs.Block.{isInteger, parameterOf, withParameter}
-use Rattle.decide.specs.declared.Picture.{Picture}
+use Rattle.decide.specs.declared.Chosen.{Chosen}
 use Rattle.decide.specs.declared.children.Children.{Children}
 use Rattle.decide.specs.declared.children.Halves.{Halves}
 use Rattle.decide.specs.Damage.{sound, directionOf, directionRight, placeRight}
@@ -69,14 +69,14 @@ module _ (b : Block) (x y : Halves) (s t : Bool) (q r o w : Block)
   list-first k i j l = l ∙ rw (i, j, e)
 
 -- the halves of a sound block above the floor
-pub halves-sound : (p : Picture) (b : Block) → sound p b ≡ true → aboveFloor ordinaryFloor (b .x .rank) ≡ true
+pub halves-sound : (p : Chosen) (b : Block) → sound p b ≡ true → aboveFloor ordinaryFloor (b .x .rank) ≡ true
     → (halvesAsked ordinaryFloor (b .x) ≡ H.Halves (lowHalf (b .x)) (highHalf (b .x))) × (halvesAsked ordinaryFloor (b .y) ≡ H.Halves (lowHalf (b .y)) (highHalf (b .y)))
 halves-sound p b ok up =
     let s = is-sound p b ok in
     let x = s .block .x in
     let y = s .block .y in (
-      halves-of-inside ordinaryFloor (b .x) (p .width) (s .picture .width-most) (x .in-ranges) up (x .inside-side),
-      halves-of-inside ordinaryFloor (b .y) (p .height) (s .picture .height-most) (y .in-ranges) (rw (← s .block .ranks) up) (y .inside-side),
+      halves-of-inside ordinaryFloor (b .x) (p .width) (s .chosen .width-most) (x .in-ranges) up (x .inside-side),
+      halves-of-inside ordinaryFloor (b .y) (p .height) (s .chosen .height-most) (y .in-ranges) (rw (← s .block .ranks) up) (y .inside-side),
     )
 
 -- they are in the ranges
@@ -92,11 +92,11 @@ pub record HalvesLegal (b : Block) : Type 0 where
   pub y-low : legal ordinaryFloor (lowHalf (b .y)) ≡ true
   pub y-high : legal ordinaryFloor (highHalf (b .y)) ≡ true
 
-pub halves-legal : (p : Picture) (b : Block) → sound p b ≡ true → aboveFloor ordinaryFloor (b .x .rank) ≡ true → HalvesLegal b
+pub halves-legal : (p : Chosen) (b : Block) → sound p b ≡ true → aboveFloor ordinaryFloor (b .x .rank) ≡ true → HalvesLegal b
 halves-legal p b ok up =
     let s = is-sound p b ok in
-    let x = half-legal (p .width) (b .x) (s .picture .width-most) (s .block .x) up in
-    let y = half-legal (p .height) (b .y) (s .picture .height-most) (s .block .y) (rw (← s .block .ranks) up) in
+    let x = half-legal (p .width) (b .x) (s .chosen .width-most) (s .block .x) up in
+    let y = half-legal (p .height) (b .y) (s .chosen .height-most) (s .block .y) (rw (← s .block .ranks) up) in
     record { x-low = x .0; x-high = x .1; y-low = y .0; y-high = y .1 }
 
 -- a low half begins where its whole begins
@@ -111,7 +111,7 @@ inside-by : (q r o w : Block) (s t : Bool) → q ∷ listedIf s r (listedIf t o 
 inside-by q r o w true t = refl
 inside-by q r o w false t = refl
 
-module _ (p : Picture) (b : Block) (ok : sound p b ≡ true) (up : aboveFloor ordinaryFloor (b .x .rank) ≡ true) where
+module _ (p : Chosen) (b : Block) (ok : sound p b ≡ true) (up : aboveFloor ordinaryFloor (b .x .rank) ≡ true) where
   abbrev xs : Halves
   xs = record { low = lowHalf (b .x); high = highHalf (b .x) }
 
@@ -169,22 +169,22 @@ pieces-listed b d x i a v e f h g k =
 
 -- ALL OF THEM
 
-pub cut-along : (p : Picture) (b : Block) (d : Direction) → sound p b ≡ true → directionOf p b ≡ A.Along d → d ≡ D.XY → aboveFloor ordinaryFloor (b .x .rank) ≡ true
+pub cut-along : (p : Chosen) (b : Block) (d : Direction) → sound p b ≡ true → directionOf p b ≡ A.Along d → d ≡ D.XY → aboveFloor ordinaryFloor (b .x .rank) ≡ true
 cut-along p b d ok e f =
     let s = is-sound p b ok .block .directed in
     let g : directionOf p b ≡ A.Along D.XY = e ∙ ap A.Along f in
     sym (ap (directionRight p b) g) ∙ s
 
-pub children-sound : (p : Picture) (b : Block) (a : DirectionAt) (k : Children) → sound p b ≡ true → a ≡ directionOf p b → k ≡ listed b (childrenAlong p b a) → k ≡ listed b (childrenOf p b)
+pub children-sound : (p : Chosen) (b : Block) (a : DirectionAt) (k : Children) → sound p b ≡ true → a ≡ directionOf p b → k ≡ listed b (childrenAlong p b a) → k ≡ listed b (childrenOf p b)
 unfolding childrenOf
 children-sound p b a k ok e f = f ∙ rw (ok, e)
 
-pub children-none : (p : Picture) (b : Block) (k : Children) → sound p b ≡ false → k ≡ listed b [] → k ≡ listed b (childrenOf p b)
+pub children-none : (p : Chosen) (b : Block) (k : Children) → sound p b ≡ false → k ≡ listed b [] → k ≡ listed b (childrenOf p b)
 unfolding childrenOf
 children-none p b k bad f = f ∙ rw bad
 
 -- a parameter that the direction names is legal
-module _ (p : Picture) (b : Block) (d : Direction) (ok : sound p b ≡ true) where
+module _ (p : Chosen) (b : Block) (d : Direction) (ok : sound p b ≡ true) where
   pub m-legal : d ≡ D.M → legalInterval (parameterOf b d) (isInteger d) ≡ true
   m-legal e = rw e (is-sound p b ok .block .parameters .m)
 
@@ -199,7 +199,7 @@ module _ (p : Picture) (b : Block) (d : Direction) (ok : sound p b ≡ true) whe
 
 -- HOW MANY THERE ARE
 
-kept-few : (p : Picture) (l : List Block) → length (keptInside p l) ≤ length l
+kept-few : (p : Chosen) (l : List Block) → length (keptInside p l) ≤ length l
 unfolding keptInside
 kept-few p [] = omega arith
 kept-few p (c ∷ l) =
@@ -211,12 +211,12 @@ cut-count b d =
     let l = laterCut (putInterval (parameterOf b d)) (isInteger d) in
     rw (L.length-map l (withParameter b d)) (later-cut-count (putInterval (parameterOf b d)) (isInteger d))
 
-xy-few : (p : Picture) (b : Block) → length (childrenXY p b) ≤ 4
+xy-few : (p : Chosen) (b : Block) → length (childrenXY p b) ≤ 4
 unfolding childrenXY quartersOf
 xy-few p b =
     by-test (λ l. length l ≤ 4) (ltb 48 (b .x .rank)) (keptInside p (quartersOf b)) (quartersOf b) (λ e. omega (arith, kept-few p (quartersOf b))) (λ e. omega arith)
 
-along-few : (p : Picture) (b : Block) (a : DirectionAt) → length (childrenAlong p b a) ≤ 4
+along-few : (p : Chosen) (b : Block) (a : DirectionAt) → length (childrenAlong p b a) ≤ 4
 along-few p b (A.Along D.XY) = xy-few p b
 along-few p b (A.Along D.M) = omega (arith, cut-count b D.M)
 along-few p b (A.Along D.N) = omega (arith, cut-count b D.N)
@@ -225,12 +225,12 @@ along-few p b (A.Along D.T) = omega (arith, cut-count b D.T)
 along-few p b A.Beyond = omega arith
 
 -- four at most
-pub children-few : (p : Picture) (b : Block) → length (childrenOf p b) ≤ 4
+pub children-few : (p : Chosen) (b : Block) → length (childrenOf p b) ≤ 4
 unfolding childrenOf
 children-few p b =
     by-test (λ l. length l ≤ 4) (sound p b) (childrenAlong p b (directionOf p b)) [] (λ e. along-few p b (directionOf p b)) (λ e. omega arith)
 
 -- and none of a damaged block
-pub unsound : (p : Picture) (b : Block) → sound p b ≡ false → childrenOf p b ≡ []
+pub unsound : (p : Chosen) (b : Block) → sound p b ≡ false → childrenOf p b ≡ []
 unfolding childrenOf
 unsound p b bad = rw bad

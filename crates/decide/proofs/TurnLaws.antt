@@ -17,7 +17,7 @@ use Rattle.queue.specs.declared.directions.Direction.{Direction}
 use Rattle.queue.specs.declared.directions.DirectionAt.{DirectionAt}
 use Rattle.queue.specs.declared.directions.DirectionAt.the-variants as A
 use Rattle.queue.specs.Directions.{directions, directionAt}
-use Rattle.decide.specs.declared.Picture.{Picture}
+use Rattle.decide.specs.declared.Chosen.{Chosen}
 use Rattle.decide.specs.declared.turn.Found.{Found}
 use Rattle.decide.specs.declared.turn.Found.the-variants as F
 use Rattle.decide.specs.declared.turn.Turned.{Turned}
@@ -28,17 +28,17 @@ use Rattle.decide.proofs.DamageLaws.{isYes}
 
 -- BY THE TESTS THAT THE CODE MAKES
 
-pub limit-as : (p : Picture) (b : Block) (a : DirectionAt) (d e : Direction) → a ≡ directionOf p b → a ≡ A.Along d → d ≡ e → openLimit (A.Along e) ≡ openLimit (directionOf p b)
+pub limit-as : (p : Chosen) (b : Block) (a : DirectionAt) (d e : Direction) → a ≡ directionOf p b → a ≡ A.Along d → d ≡ e → openLimit (A.Along e) ≡ openLimit (directionOf p b)
 limit-as p b a d e f g h = ap openLimit (sym (g ∙ ap A.Along h) ∙ f)
 
-pub limit-none : (p : Picture) (b : Block) (a : DirectionAt) → a ≡ directionOf p b → a ≡ A.Beyond → 0 ≡ openLimit (directionOf p b)
+pub limit-none : (p : Chosen) (b : Block) (a : DirectionAt) → a ≡ directionOf p b → a ≡ A.Beyond → 0 ≡ openLimit (directionOf p b)
 limit-none p b a f g = ap openLimit (sym g ∙ f)
 
-pub start-present : (p : Picture) (b : Block) (n l : ℕ) → l ≡ openLimit (directionOf p b) → n ≤ l → b .dir ≡ startOf p b n
+pub start-present : (p : Chosen) (b : Block) (n l : ℕ) → l ≡ openLimit (directionOf p b) → n ≤ l → b .dir ≡ startOf p b n
 unfolding startOf
 start-present p b n l e h = rw (le-leb n (openLimit (directionOf p b)) (rw (← e) h))
 
-pub start-next : (p : Picture) (b : Block) (n l : ℕ) → l ≡ openLimit (directionOf p b) → l < n → b .dir + 1 ≡ startOf p b n
+pub start-next : (p : Chosen) (b : Block) (n l : ℕ) → l ≡ openLimit (directionOf p b) → l < n → b .dir + 1 ≡ startOf p b n
 unfolding startOf
 start-next p b n l e h = rw (lt-leb n (openLimit (directionOf p b)) (rw (← e) h))
 
@@ -51,7 +51,7 @@ splits-as x integer w v e f = ap isYes (sym f ∙ e) ∙ go (legalInterval x int
     go true false = refl
     go false b = refl
 
-pub along-as : (p : Picture) (c : Block) (at : ℕ) (a v : DirectionAt) (r : Bool) → a ≡ directionAt (directions (p .set)) at → a ≡ v → r ≡ subdivisibleAlong c v
+pub along-as : (p : Chosen) (c : Block) (at : ℕ) (a v : DirectionAt) (r : Bool) → a ≡ directionAt (directions (p .set)) at → a ≡ v → r ≡ subdivisibleAlong c v
     → r ≡ subdivisibleAlong c (directionAt (directions (p .set)) at)
 along-as p c at a v r e f g = g ∙ ap (subdivisibleAlong c) (sym f ∙ e)
 
@@ -92,13 +92,13 @@ module _ (ds : List Direction) (c : Block) (start n i at : ℕ) (same : n ≡ le
 pub first-here : (start n at : ℕ) → at ≡ start % n → at ≡ (start + 0) % n
 first-here start n at e = e ∙ ap (λ (m : ℕ). m % n) (sym (add-zero start))
 
-pub search-start : (p : Picture) (c : Block) (start n : ℕ) → n ≡ length (directions (p .set)) → searchedFrom (directions (p .set)) c (n - 0) (start + 0) ≡ searched p c start
+pub search-start : (p : Chosen) (c : Block) (start n : ℕ) → n ≡ length (directions (p .set)) → searchedFrom (directions (p .set)) c (n - 0) (start + 0) ≡ searched p c start
 search-start p c start n e = let f : n - 0 ≡ n = omega arith in rw (f, add-zero start, e)
 
 -- THE TURN
 
-pub turns-to : (p : Picture) (start d : ℕ) (c : Block) (f : Found) → f ≡ searched p c start → f ≡ F.At d → T.To (turnedTo c d) ≡ turnedFound p start c
+pub turns-to : (p : Chosen) (start d : ℕ) (c : Block) (f : Found) → f ≡ searched p c start → f ≡ F.At d → T.To (turnedTo c d) ≡ turnedFound p start c
 turns-to p start d c f g h = ap (turnedBy c) (sym h ∙ g)
 
-pub turns-nowhere : (p : Picture) (start : ℕ) (c : Block) (f : Found) → f ≡ searched p c start → f ≡ F.Nothing → T.Nowhere ≡ turnedFound p start c
+pub turns-nowhere : (p : Chosen) (start : ℕ) (c : Block) (f : Found) → f ≡ searched p c start → f ≡ F.Nothing → T.Nowhere ≡ turnedFound p start c
 turns-nowhere p start c f g h = ap (turnedBy c) (sym h ∙ g)

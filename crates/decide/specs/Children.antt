@@ -15,7 +15,7 @@ use Rattle.queue.specs.declared.directions.Direction.the-variants as D
 use Rattle.queue.specs.declared.directions.DirectionAt.{DirectionAt}
 use Rattle.queue.specs.declared.directions.DirectionAt.the-variants as A
 use Rattle.queue.specs.Block.{isInteger, parameterOf, withParameter}
-use Rattle.decide.specs.declared.Picture.{Picture}
+use Rattle.decide.specs.declared.Chosen.{Chosen}
 use Rattle.decide.specs.declared.children.Children.{Children}
 use Rattle.decide.specs.declared.children.Halves.{Halves}
 use Rattle.decide.specs.Damage.{sound, directionOf}
@@ -31,16 +31,16 @@ quartersOf b =
     ∷ movedTo b (lowHalf (b .x)) (highHalf (b .y)) ∷ movedTo b (highHalf (b .x)) (highHalf (b .y)) ∷ []
 
 -- a block begins inside the picture
-abbrev pub beginsInside : Picture → Block → Bool
+abbrev pub beginsInside : Chosen → Block → Bool
 beginsInside p b = inside (p .width) (b .x .rank) (b .x .index) && inside (p .height) (b .y .rank) (b .y .index)
 
 -- those that begin inside
-unfoldable pub keptInside : Picture → List Block → List Block
+unfoldable pub keptInside : Chosen → List Block → List Block
 keptInside p [] = []
 keptInside p (b ∷ l) = cond (beginsInside p b) (b ∷ keptInside p l) (keptInside p l)
 
 -- above level 0 only those inside are children, from level 0 down all four
-unfoldable pub childrenXY : Picture → Block → List Block
+unfoldable pub childrenXY : Chosen → Block → List Block
 childrenXY p b = cond (ltb 48 (b .x .rank)) (keptInside p (quartersOf b)) (quartersOf b)
 
 -- a parameter: the pieces of its later cut, all else unchanged
@@ -48,7 +48,7 @@ unfoldable pub childrenCut : Block → Direction → List Block
 childrenCut b d = map (withParameter b d) (laterCut (putInterval (parameterOf b d)) (isInteger d))
 
 -- by the direction; where there is none the block is its own child
-abbrev pub childrenAlong : Picture → Block → DirectionAt → List Block
+abbrev pub childrenAlong : Chosen → Block → DirectionAt → List Block
 childrenAlong p b (A.Along D.XY) = childrenXY p b
 childrenAlong p b (A.Along D.M) = childrenCut b D.M
 childrenAlong p b (A.Along D.N) = childrenCut b D.N
@@ -57,7 +57,7 @@ childrenAlong p b (A.Along D.T) = childrenCut b D.T
 childrenAlong p b A.Beyond = b ∷ []
 
 -- the children; a damaged block has none
-unfoldable pub childrenOf : Picture → Block → List Block
+unfoldable pub childrenOf : Chosen → Block → List Block
 childrenOf p b = cond (sound p b) (childrenAlong p b (directionOf p b)) []
 
 -- a list of up to four as an array with a count: the places behind it hold the block itself

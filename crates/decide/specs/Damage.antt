@@ -20,7 +20,7 @@ use Rattle.queue.specs.declared.directions.Direction.the-variants as D
 use Rattle.queue.specs.declared.directions.DirectionAt.{DirectionAt}
 use Rattle.queue.specs.declared.directions.DirectionAt.the-variants as A
 use Rattle.queue.specs.Directions.{directions, directionAt}
-use Rattle.decide.specs.declared.Picture.{Picture}
+use Rattle.decide.specs.declared.Chosen.{Chosen}
 
 -- a side that row 1 does not refuse
 abbrev pub legalSide : ℕ → Bool
@@ -30,11 +30,11 @@ legalSide side = leb 1 side && leb side 32768
 abbrev pub legalSet : ℕ → Bool
 legalSet set = leb set 63
 
-unfoldable pub legalPicture : Picture → Bool
-legalPicture p = legalSide (p .width) && legalSide (p .height) && legalSet (p .set)
+unfoldable pub legalChosen : Chosen → Bool
+legalChosen p = legalSide (p .width) && legalSide (p .height) && legalSet (p .set)
 
 -- the direction that a block's byte names
-abbrev pub directionOf : Picture → Block → DirectionAt
+abbrev pub directionOf : Chosen → Block → DirectionAt
 directionOf p b = directionAt (directions (p .set)) (b .dir)
 
 -- a coordinate is in the ranges for index and level, and begins inside its side
@@ -50,7 +50,7 @@ cuttable b D.Theta = true
 cuttable b D.T = true
 
 -- the byte names a direction in use; where none is in use it is 0
-abbrev pub directionRight : Picture → Block → DirectionAt → Bool
+abbrev pub directionRight : Chosen → Block → DirectionAt → Bool
 directionRight p b (A.Along d) = cuttable b d
 directionRight p b A.Beyond = eqb (length (directions (p .set))) 0 && eqb (b .dir) 0
 
@@ -59,23 +59,23 @@ abbrev pub parametersRight : Block → Bool
 parametersRight b = legalInterval (b .m) true && legalInterval (b .n) true && legalInterval (b .theta) true && legalInterval (b .t) false
 
 -- not damaged: one level for x and y, and all of the above
-unfoldable pub undamaged : Picture → Block → Bool
+unfoldable pub undamaged : Chosen → Block → Bool
 undamaged p b =
     eqb (b .x .rank) (b .y .rank) && placeRight (p .width) (b .x) && placeRight (p .height) (b .y)
     && directionRight p b (directionOf p b) && parametersRight b
 
 -- a legal picture and an undamaged block of it
-abbrev pub sound : Picture → Block → Bool
-sound p b = legalPicture p && undamaged p b
+abbrev pub sound : Chosen → Block → Bool
+sound p b = legalChosen p && undamaged p b
 
 -- the cells that a block covers
-abbrev pub coveredCells : Picture → Block → List Cell → List Cell
+abbrev pub coveredCells : Chosen → Block → List Cell → List Cell
 coveredCells p b l = heldCells (p .width) (rectangleOf (b .x) (b .y) (p .width) (p .height)) l
 
 -- one of them holds no number, nor True, nor given up
-unfoldable pub cellDamaged : Picture → Block → List Cell → Bool
+unfoldable pub cellDamaged : Chosen → Block → List Cell → Bool
 cellDamaged p b l = someOf isDamaged (coveredCells p b l)
 
 -- the same of lent cells; where they are fewer than the pixels nothing is seen
-abbrev pub damageSeen : Picture → Block → List ℕ → Seen
+abbrev pub damageSeen : Chosen → Block → List ℕ → Seen
 damageSeen p b cells = someSeen (p .width) (p .height) (rectangleOf (b .x) (b .y) (p .width) (p .height)) K.Damaged cells

@@ -14,7 +14,7 @@ use Rattle.queue.specs.declared.directions.Direction.the-variants as D
 use Rattle.queue.specs.declared.directions.DirectionAt.{DirectionAt}
 use Rattle.queue.specs.declared.directions.DirectionAt.the-variants as A
 use Rattle.queue.specs.Directions.{directions, directionAt}
-use Rattle.decide.specs.declared.Picture.{Picture}
+use Rattle.decide.specs.declared.Chosen.{Chosen}
 use Rattle.decide.specs.declared.turn.Found.{Found}
 use Rattle.decide.specs.declared.turn.Found.the-variants as F
 use Rattle.decide.specs.declared.turn.Turned.{Turned}
@@ -31,7 +31,7 @@ openLimit (A.Along D.T) = 2
 openLimit A.Beyond = 0
 
 -- while they are few the search begins at the parent's direction, else at the one after it
-unfoldable pub startOf : Picture → Block → ℕ → ℕ
+unfoldable pub startOf : Chosen → Block → ℕ → ℕ
 startOf p b incomplete = cond (leb incomplete (openLimit (directionOf p b))) (b .dir) (b .dir + 1)
 
 -- is a parameter subdivisible? One that is not legal is not
@@ -54,7 +54,7 @@ searchedFrom ds c (suc n) at =
     cond (subdivisibleAlong c (directionAt ds (at % length ds))) (F.At (at % length ds)) (searchedFrom ds c n (at + 1))
 
 -- all of them
-abbrev pub searched : Picture → Block → ℕ → Found
+abbrev pub searched : Chosen → Block → ℕ → Found
 searched p c at = searchedFrom (directions (p .set)) c (length (directions (p .set))) at
 
 -- the block with another direction byte
@@ -66,9 +66,9 @@ turnedBy c (F.At d) = T.To (turnedTo c d)
 turnedBy c F.Nothing = T.Nowhere
 
 -- the child with the direction that a search from a place on finds
-abbrev pub turnedFound : Picture → ℕ → Block → Turned
+abbrev pub turnedFound : Chosen → ℕ → Block → Turned
 turnedFound p start c = turnedBy c (searched p c start)
 
 -- an incomplete child of b with its next direction, if it finds one; `incomplete` is how many there are
-unfoldable pub turned : Picture → Block → ℕ → Block → Turned
+unfoldable pub turned : Chosen → Block → ℕ → Block → Turned
 turned p b incomplete c = turnedFound p (startOf p b incomplete) c

@@ -8,8 +8,8 @@ ghost use Rattle.interval.specs.Bounds.{legalInterval};
 ghost use Rattle.queue.specs.Block.{isInteger, parameterOf};
 ghost use Rattle.decide.specs.Damage.{sound, directionOf};
 ghost use Rattle.decide.specs.Children.{movedTo, isKept, quartersKept, childrenXY, childrenCut, childrenAlong, childrenOf, listed};
-use super::Picture;
-use super::damage::is_legal_picture;
+use super::Chosen;
+use super::damage::is_legal_chosen;
 use super::damage::is_placed;
 use super::damage::is_undamaged;
 use coordinate::Coordinate;
@@ -37,10 +37,10 @@ struct Halves {
 }
 
 // The children of a block in order; a damaged block has none.
-pub fn children_of(p: Picture, b: Block) -> Children
+pub fn children_of(p: Chosen, b: Block) -> Children
     ensures { λ r. ⌜ r ≡ listed b (childrenOf p b) ⌝ }
 {
-    if is_legal_picture(p) & is_undamaged(p, b) {
+    if is_legal_chosen(p) & is_undamaged(p, b) {
         return match direction_at(p.set, b.dir) {
             DirectionAt::Along(d) => children_along(p, b, d),
             DirectionAt::Beyond => list_one(b, b),
@@ -90,7 +90,7 @@ fn list_three(b: Block, c: Block, d: Block, e: Block) -> Children
 }
 
 // The children along a direction.
-fn children_along(p: Picture, b: Block, d: Direction) -> Children
+fn children_along(p: Chosen, b: Block, d: Direction) -> Children
     requires { ⌜ (sound p b ≡ true) × (directionOf p b ≡ DirectionAt.Along d) ⌝ }
     ensures { λ r. ⌜ r ≡ listed b (childrenAlong p b (DirectionAt.Along d)) ⌝ }
 {
@@ -104,7 +104,7 @@ fn children_along(p: Picture, b: Block, d: Direction) -> Children
 }
 
 // The quarters in order.
-fn children_xy(p: Picture, b: Block) -> Children
+fn children_xy(p: Chosen, b: Block) -> Children
     requires { ⌜ (sound p b ≡ true) × (aboveFloor ordinaryFloor (b .x .rank) ≡ true) ⌝ }
     ensures { λ r. ⌜ r ≡ listed b (childrenXY p b) ⌝ }
 {

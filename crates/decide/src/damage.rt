@@ -1,8 +1,8 @@
 // Which pictures are legal, and which blocks are damaged.
 ghost use mathlib.Core.Path.{_≡_};
 ghost use Rattle.interval.specs.Bounds.{legalInterval};
-ghost use Rattle.decide.specs.Damage.{legalSide, legalPicture, placeRight, directionOf, directionRight, cuttable, parametersRight, undamaged, damageSeen};
-use super::Picture;
+ghost use Rattle.decide.specs.Damage.{legalSide, legalChosen, placeRight, directionOf, directionRight, cuttable, parametersRight, undamaged, damageSeen};
+use super::Chosen;
 use coordinate::Coordinate;
 use image::Kind;
 use image::Seen;
@@ -16,8 +16,8 @@ use queue::kept::whole_line;
 use refusal::Whether;
 
 // Whether the sides and the variable set are ones that a setup takes.
-pub fn is_legal_picture(p: Picture) -> bool
-    ensures { λ r. ⌜ r ≡ legalPicture p ⌝ }
+pub fn is_legal_chosen(p: Chosen) -> bool
+    ensures { λ r. ⌜ r ≡ legalChosen p ⌝ }
 {
     is_legal_side(p.width) & is_legal_side(p.height) & (p.set <= 63)
 }
@@ -30,7 +30,7 @@ pub fn is_legal_side(side: u32) -> bool
 }
 
 // Whether a block taken from a queue is one that a step can go on with.
-pub(crate) fn is_undamaged(p: Picture, b: Block) -> bool
+pub(crate) fn is_undamaged(p: Chosen, b: Block) -> bool
     ensures { λ r. ⌜ r ≡ undamaged p b ⌝ }
 {
     let x = b.x;
@@ -54,7 +54,7 @@ pub(crate) fn is_placed(c: Coordinate, side: u32) -> bool
 }
 
 // Whether the direction byte names a direction in use that the block can be cut along, or is 0 where there are none.
-fn is_directed(p: Picture, b: Block) -> bool
+fn is_directed(p: Chosen, b: Block) -> bool
     ensures { λ r. ⌜ r ≡ directionRight p b (directionOf p b) ⌝ }
 {
     match direction_at(p.set, b.dir) {
@@ -97,7 +97,7 @@ fn has_legal_parameters(b: Block) -> bool
 }
 
 // Whether a cell that the block covers is neither a number, nor True, nor given up.
-pub fn has_damaged_cell(p: Picture, b: Block, cells: &[u64]) -> Seen
+pub fn has_damaged_cell(p: Chosen, b: Block, cells: &[u64]) -> Seen
     ensures { λ r. ⌜ r ≡ damageSeen p b (now (cells .entry)) ⌝ }
 {
     let r = image::rectangle(b.x, b.y, p.width, p.height);

@@ -7,10 +7,14 @@ pub mod damage;
 pub mod turn;
 pub mod verdict;
 
-// What a setup chooses and no step changes: the sides in pixels, and the variables in use.
+// What a setup chooses and no step changes: the sides in pixels, and the variables in use. The reserved bytes are for what later
+// releases let a setup choose: setup makes them 0, and nothing looks at them.
 #[repr(C)]
-pub struct Picture {
+pub struct Chosen {
     pub width: u32,
     pub height: u32,
     pub set: u8,
+    pub reserved1: u8,
+    pub reserved2: u8,
+    pub reserved3: u8,
 }

@@ -4,7 +4,7 @@ ghost use Prim.Native.Nat.{_%_, _^_, _<_};
 ghost use Rattle.queue.specs.Directions.{directions, directionAt};
 ghost use Rattle.decide.specs.Damage.{directionOf};
 ghost use Rattle.decide.specs.Turn.{openLimit, startOf, splitsAt, subdivisibleAlong, searched, turnedFound};
-use super::Picture;
+use super::Chosen;
 use super::damage::is_cuttable;
 use interval::Interval;
 use queue::Block;
@@ -28,7 +28,7 @@ pub enum Found {
 }
 
 // The child with the direction that a search from a place on finds.
-pub fn turn_from(p: Picture, start: u16, c: Block) -> Turned
+pub fn turn_from(p: Chosen, start: u16, c: Block) -> Turned
     ensures { λ r. ⌜ r ≡ turnedFound p start c ⌝ }
 {
     match search(p, c, start as usize) {
@@ -42,7 +42,7 @@ pub fn turn_from(p: Picture, start: u16, c: Block) -> Turned
 }
 
 // Where the search begins: at the present direction while few children are incomplete, else at the next.
-pub fn start_of(p: Picture, b: Block, incomplete: usize) -> u16
+pub fn start_of(p: Chosen, b: Block, incomplete: usize) -> u16
     ensures { λ r. ⌜ r ≡ startOf p b incomplete ⌝ }
 {
     if incomplete <= open_limit(p, b) {
@@ -53,7 +53,7 @@ pub fn start_of(p: Picture, b: Block, incomplete: usize) -> u16
 }
 
 // How many incomplete children are few.
-fn open_limit(p: Picture, b: Block) -> usize
+fn open_limit(p: Chosen, b: Block) -> usize
     ensures { λ r. ⌜ r ≡ openLimit (directionOf p b) ⌝ }
 {
     match direction_at(p.set, b.dir) {
@@ -69,7 +69,7 @@ fn open_limit(p: Picture, b: Block) -> usize
 }
 
 // The first direction, round the list from a place on, that the block can be cut along: as a rule the first that is tried.
-fn search(p: Picture, c: Block, start: usize) -> Found
+fn search(p: Chosen, c: Block, start: usize) -> Found
     requires { ⌜ start < 2 ^ 16 ⌝ }
     ensures { λ r. ⌜ r ≡ searched p c start ⌝ }
 {
@@ -105,7 +105,7 @@ fn round(at: usize, n: usize) -> usize
 }
 
 // Whether the block can be cut along the direction at a place.
-fn is_subdivisible(p: Picture, c: Block, at: u8) -> bool
+fn is_subdivisible(p: Chosen, c: Block, at: u8) -> bool
     ensures { λ r. ⌜ r ≡ subdivisibleAlong c (directionAt (directions (p .set)) at) ⌝ }
 {
     match direction_at(p.set, at) {

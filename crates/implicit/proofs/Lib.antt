@@ -17,5 +17,6 @@ pub mod StepLawsSound
 pub mod RunLaws
 pub mod RunLawsResumed
 pub mod ViewLaws
+pub mod RoomLaws
 pub mod Numbers
 pub mod Pairs

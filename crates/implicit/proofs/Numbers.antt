@@ -3,11 +3,11 @@
 use mathlib.Core.Path.{_≡_, refl, ap}
 use mathlib.Core.Bool.{Bool, true, false, cond, not, _&&_, _||_}
 use mathlib.Core.List.{List, [], _∷_}
-use Prim.Native.Nat.{ℕ, _+_, _^_}
+use Prim.Native.Nat.{ℕ, zero, suc, _+_, _^_, _≤_}
 use native.Mathlib.Omega.{arith}
-use lib.Dec.{leb, ltb}
+use lib.Dec.{leb, ltb, eqb}
 use lib.ListN.{length, take}
-use borrow.Author.Tests.{leb-true, leb-false, lt-ltb, le-ltb}
+use borrow.Author.Tests.{leb-true, leb-false, lt-ltb, le-ltb, ne-eqb}
 use Rattle.refusal.specs.declared.Refusal.{Refusal}
 use Rattle.refusal.specs.declared.Refusal.the-variants as R
 use Rattle.refusal.specs.Number.{number}
@@ -15,7 +15,7 @@ use Rattle.image.specs.Cell.{isDamaged}
 use Rattle.image.specs.Painting.{someOf}
 use Rattle.queue.specs.declared.Taken.{Taken}
 use Rattle.queue.specs.declared.Taken.the-variants as T
-use Rattle.decide.specs.declared.Picture.{Picture}
+use Rattle.decide.specs.declared.Chosen.{Chosen}
 use Rattle.decide.specs.Damage.{legalSide, undamaged}
 use Rattle.decide.specs.Children.{childrenOf}
 use Rattle.decide.specs.Verdict.{allLegal}
@@ -29,13 +29,16 @@ use Rattle.implicit.specs.declared.state.Needed.the-variants as M
 use Rattle.implicit.specs.declared.state.Drawn.the-variants as D
 use Rattle.implicit.specs.declared.state.Counted.the-variants as C
 use Rattle.implicit.specs.Record.{pixelCount, pixelCells, soundRecord, queueEmpty}
-use Rattle.implicit.specs.Setup.{rangesLegal, firstBytes, setupRefusal, leastRing, startRecord, startedBy, startedAnswer}
+use Rattle.implicit.specs.Setup.{rangesLegal, firstBytes, setupRefusal, leastRing, startRecord, startedBy, startedAnswer, cleared}
 use Rattle.implicit.specs.Listing.{frontOf, unlisted, listedBlock, listedFrom, childrenListed}
 use Rattle.implicit.specs.Step.{World, StepEnd, refused, unless, enoughVerdicts, newBlocks, newBytes, blockFine, judged, opened, stepWith, stepAnswer}
 use Rattle.implicit.specs.Run.{RunAnswer, notRun, runOf, runAnswer}
+use Rattle.implicit.specs.Room.{enoughRing}
+use Rattle.implicit.specs.Move.{MoveEnd, notMoved, moveOf, moveAnswer}
 use Rattle.implicit.specs.View.{cellsFine, pictureAnswer, countsAnswer}
-use Rattle.implicit.specs.Answers.{setupNumber, setupState, neededNumber, stepNumber, runNumber, drawnNumber, childrenNumber, countsNumber}
+use Rattle.implicit.specs.Answers.{setupNumber, setupState, neededNumber, moveNumber, stepNumber, runNumber, drawnNumber, childrenNumber, countsNumber}
 use Rattle.implicit.proofs.RecordLaws.{waiting-by-count}
+use Rattle.implicit.proofs.RoomLaws.{least-exactly}
 
 -- the number of the first row that applies
 unfoldable pub firstOf : List (ℕ × Bool) → ℕ
@@ -73,6 +76,11 @@ one-fails : (a b : Bool) → not a || not b ≡ not (a && b)
 one-fails true b = refl
 one-fails false b = refl
 
+-- no byte, or fewer than are used
+no-room : (n used : ℕ) → eqb n 0 || ltb n used ≡ not (ltb 0 n && leb used n)
+no-room zero used = refl
+no-room (suc n) used = rw (ne-eqb (suc n) 0 (λ e. omega arith), lt-ltb 0 (suc n) (omega arith)) (fewer used (suc n))
+
 not-not : (t : Bool) → t ≡ not (not t)
 not-not true = refl
 not-not false = refl
@@ -101,7 +109,7 @@ never-zero R.Empty e = omega arith
 never-zero R.Sheet e = omega arith
 
 -- setup
-pub setup-number : (p : Picture) (r : Ranges) (len count : ℕ)
+pub setup-number : (p : Chosen) (r : Ranges) (len count : ℕ)
     → setupNumber (startedAnswer p r len count)
     ≡ firstOf ((1, not (legalSide (p .width)) || not (legalSide (p .height)))
     ∷ (2, ltb count (pixelCount p))
@@ -122,27 +130,54 @@ ready-by-number (S.Ready t) s e f = ap S.Ready f
 ready-by-number (S.Refused why) s e f = absurd (never-zero why e)
 
 -- the least ring
-pub least-ring-number : (p : Picture) (r : Ranges)
+pub least-ring-number : (p : Chosen) (r : Ranges)
     → neededNumber (leastRing p r) ≡ firstOf ((1, not (legalSide (p .width)) || not (legalSide (p .height))) ∷ (3, not (rangesLegal (p .set) r)) ∷ [])
 unfolding leastRing
 least-ring-number p r =
     row neededNumber (legalSide (p .width) && legalSide (p .height)) (M.Refused R.Side) _ _ _ (one-fails (legalSide (p .width)) (legalSide (p .height))) (λ _.
     row neededNumber (rangesLegal (p .set) r) (M.Refused R.Parameter) _ _ _ refl (λ _. none))
 
+-- and it is least: with enough cells a setup is refused by 6 on every shorter ring, and on no other
+pub least-ring-is-least : (p : Chosen) (r : Ranges) (len count n : ℕ) → leastRing p r ≡ M.Bytes n → pixelCount p ≤ count
+    → setupNumber (startedAnswer (cleared p) r len count) ≡ firstOf ((6, ltb len n) ∷ [])
+unfolding startedAnswer
+least-ring-is-least p r len count n e cells =
+    let f : SetupEnd → ℕ = λ e. setupNumber (startedBy e (startRecord (cleared p) r len)) in
+    rw (least-exactly p r len count n e cells) (row f (leb n len) (E.Rejected R.Room) _ _ _ (fewer n len) (λ _. none))
+
+-- a ring that is enough for n steps
+pub enough-ring-number : (p : Chosen) (r : Ranges) (n : ℕ)
+    → neededNumber (enoughRing p r n) ≡ firstOf ((1, not (legalSide (p .width)) || not (legalSide (p .height))) ∷ (3, not (rangesLegal (p .set) r)) ∷ [])
+unfolding enoughRing
+enough-ring-number p r n =
+    row neededNumber (legalSide (p .width) && legalSide (p .height)) (M.Refused R.Side) _ _ _ (one-fails (legalSide (p .width)) (legalSide (p .height))) (λ _.
+    row neededNumber (rangesLegal (p .set) r) (M.Refused R.Parameter) _ _ _ refl (λ _. none))
+
+-- the move of the queue to another ring
+pub move-number : (w : World) (other : List ℕ)
+    → moveNumber (moveAnswer (w .state) (moveOf w other))
+    ≡ firstOf ((8, not (soundRecord (length (w .ring)) (w .state))) ∷ (6, eqb (length other) 0 || ltb (length other) (w .state .used)) ∷ [])
+unfolding moveOf
+move-number w other =
+    let f : MoveEnd → ℕ = λ e. moveNumber (moveAnswer (w .state) e) in
+    let u = w .state .used in
+    row f (soundRecord (length (w .ring)) (w .state)) (notMoved R.Damaged) _ _ _ refl (λ _.
+    row f (ltb 0 (length other) && leb u (length other)) (notMoved R.Room) _ _ _ (no-room (length other) u) (λ _. none))
+
 -- the children: of the block that was read, without a look at cells
-unfoldable pub listedRows : Picture → Taken → List (ℕ × Bool)
+unfoldable pub listedRows : Chosen → Taken → List (ℕ × Bool)
 listedRows p T.Damaged = (8, true) ∷ []
 listedRows p T.Outside = (8, true) ∷ []
 listedRows p (T.Front b last head used) = (8, not (undamaged p b)) ∷ []
 
-listed-number : (s : State) (t : Taken) → childrenNumber (listedFrom s t) ≡ firstOf (listedRows (s .picture) t)
+listed-number : (s : State) (t : Taken) → childrenNumber (listedFrom s t) ≡ firstOf (listedRows (s .chosen) t)
 unfolding listedBlock listedRows
 listed-number s T.Damaged = unread
 listed-number s T.Outside = unread
-listed-number s (T.Front b last head used) = row childrenNumber (undamaged (s .picture) b) (unlisted R.Damaged) _ _ _ refl (λ _. none)
+listed-number s (T.Front b last head used) = row childrenNumber (undamaged (s .chosen) b) (unlisted R.Damaged) _ _ _ refl (λ _. none)
 
 pub children-number : (s : State) (ring : List ℕ)
-    → childrenNumber (childrenListed s ring) ≡ firstOf ((8, not (soundRecord (length ring) s)) ∷ (13, queueEmpty s) ∷ listedRows (s .picture) (frontOf s ring))
+    → childrenNumber (childrenListed s ring) ≡ firstOf ((8, not (soundRecord (length ring) s)) ∷ (13, queueEmpty s) ∷ listedRows (s .chosen) (frontOf s ring))
 unfolding childrenListed
 children-number s ring =
     row childrenNumber (soundRecord (length ring) s) (unlisted R.Damaged) _ _ _ refl (λ h.
@@ -153,9 +188,9 @@ unfoldable pub blockRows : Bool → World → List ℕ → Taken → List (ℕ �
 blockRows tape w vs T.Damaged = (8, true) ∷ []
 blockRows tape w vs T.Outside = (8, true) ∷ []
 blockRows tape w vs (T.Front b last head used) =
-    let cs = childrenOf (w .state .picture) b in
+    let cs = childrenOf (w .state .chosen) b in
     let own = take (length cs) vs in
-    (8, not (blockFine (w .state .picture) (w .cells) b))
+    (8, not (blockFine (w .state .chosen) (w .cells) b))
     ∷ (4, not (enoughVerdicts tape (length cs) (length vs)))
     ∷ (5, not (allLegal cs own))
     ∷ (7, ltb (2 ^ 32) (w .state .queued + length (newBlocks w b own)))
@@ -168,9 +203,9 @@ block-number tape w vs T.Damaged = unread
 block-number tape w vs T.Outside = unread
 block-number tape w vs (T.Front b last head used) =
     let f : StepEnd → ℕ = λ e. stepNumber (stepAnswer (w .state) e) in
-    let cs = childrenOf (w .state .picture) b in
+    let cs = childrenOf (w .state .chosen) b in
     let own = take (length cs) vs in
-    row f (blockFine (w .state .picture) (w .cells) b) (refused R.Damaged) _ _ _ refl (λ _.
+    row f (blockFine (w .state .chosen) (w .cells) b) (refused R.Damaged) _ _ _ refl (λ _.
     row f (enoughVerdicts tape (length cs) (length vs)) (refused R.Verdicts) _ _ _ refl (λ _.
     row f (allLegal cs own) (refused R.Verdict) _ _ _ refl (λ _.
     row f (leb (w .state .queued + length (newBlocks w b own)) (2 ^ 32)) (refused R.Numbers) _ _ _ (fewer (w .state .queued + length (newBlocks w b own)) (2 ^ 32)) (λ _.
@@ -179,13 +214,13 @@ block-number tape w vs (T.Front b last head used) =
 pub step-number : (tape : Bool) (w : World) (vs : List ℕ)
     → stepNumber (stepAnswer (w .state) (stepWith tape w vs))
     ≡ firstOf ((8, not (soundRecord (length (w .ring)) (w .state)))
-    ∷ (2, ltb (length (w .cells)) (pixelCount (w .state .picture)))
+    ∷ (2, ltb (length (w .cells)) (pixelCount (w .state .chosen)))
     ∷ (13, queueEmpty (w .state))
     ∷ blockRows tape w vs (frontOf (w .state) (w .ring)))
 unfolding stepWith unless
 step-number tape w vs =
     let f : StepEnd → ℕ = λ e. stepNumber (stepAnswer (w .state) e) in
-    let p = w .state .picture in
+    let p = w .state .chosen in
     row f (soundRecord (length (w .ring)) (w .state)) (refused R.Damaged) _ _ _ refl (λ h.
     row f (leb (pixelCount p) (length (w .cells))) (refused R.Cells) _ _ _ (fewer (pixelCount p) (length (w .cells))) (λ _.
     row f (ltb (w .state .taken) (w .state .queued)) (refused R.Empty) _ _ _ (none-left (length (w .ring)) (w .state) h) (λ _.
@@ -194,11 +229,11 @@ step-number tape w vs =
 -- the run
 pub run-number : (budget : ℕ) (w : World) (tape : List ℕ)
     → runNumber (runAnswer (w .state) (runOf budget w tape))
-    ≡ firstOf ((8, not (soundRecord (length (w .ring)) (w .state))) ∷ (2, ltb (length (w .cells)) (pixelCount (w .state .picture))) ∷ [])
+    ≡ firstOf ((8, not (soundRecord (length (w .ring)) (w .state))) ∷ (2, ltb (length (w .cells)) (pixelCount (w .state .chosen))) ∷ [])
 unfolding runOf
 run-number budget w tape =
     let f : RunAnswer → ℕ = λ a. runNumber (runAnswer (w .state) a) in
-    let p = w .state .picture in
+    let p = w .state .chosen in
     row f (soundRecord (length (w .ring)) (w .state)) (notRun R.Damaged) _ _ _ refl (λ _.
     row f (leb (pixelCount p) (length (w .cells))) (notRun R.Cells) _ _ _ (fewer (pixelCount p) (length (w .cells))) (λ _. none))
 
@@ -206,13 +241,13 @@ run-number budget w tape =
 pub picture-number : (s : State) (cells : List ℕ) (room : ℕ)
     → drawnNumber (pictureAnswer s cells room)
     ≡ firstOf ((8, not (soundRecord (s .len) s))
-    ∷ (2, ltb (length cells) (pixelCount (s .picture)))
-    ∷ (12, ltb room (pixelCount (s .picture)))
-    ∷ (8, someOf isDamaged (pixelCells (s .picture) cells))
+    ∷ (2, ltb (length cells) (pixelCount (s .chosen)))
+    ∷ (12, ltb room (pixelCount (s .chosen)))
+    ∷ (8, someOf isDamaged (pixelCells (s .chosen) cells))
     ∷ [])
 unfolding pictureAnswer
 picture-number s cells room =
-    let p = s .picture in
+    let p = s .chosen in
     row drawnNumber (soundRecord (s .len) s) (D.Refused R.Damaged) _ _ _ refl (λ _.
     row drawnNumber (leb (pixelCount p) (length cells)) (D.Refused R.Cells) _ _ _ (fewer (pixelCount p) (length cells)) (λ _.
     row drawnNumber (leb (pixelCount p) room) (D.Refused R.Picture) _ _ _ (fewer (pixelCount p) room) (λ _.
@@ -222,12 +257,12 @@ picture-number s cells room =
 pub counts-number : (s : State) (cells : List ℕ)
     → countsNumber (countsAnswer s cells)
     ≡ firstOf ((8, not (soundRecord (s .len) s))
-    ∷ (2, ltb (length cells) (pixelCount (s .picture)))
-    ∷ (8, someOf isDamaged (pixelCells (s .picture) cells))
+    ∷ (2, ltb (length cells) (pixelCount (s .chosen)))
+    ∷ (8, someOf isDamaged (pixelCells (s .chosen) cells))
     ∷ [])
 unfolding countsAnswer
 counts-number s cells =
-    let p = s .picture in
+    let p = s .chosen in
     row countsNumber (soundRecord (s .len) s) (C.Refused R.Damaged) _ _ _ refl (λ _.
     row countsNumber (leb (pixelCount p) (length cells)) (C.Refused R.Cells) _ _ _ (fewer (pixelCount p) (length cells)) (λ _.
     row countsNumber (cellsFine s cells) (C.Refused R.Damaged) _ _ _ (not-not (someOf isDamaged (pixelCells p cells))) (λ _. none)))

@@ -24,9 +24,9 @@ use Rattle.image.proofs.RangeLaws.{cell-below, beyond-not-held, whole-holds, wh
 use Rattle.queue.specs.declared.Block.{Block}
 use Rattle.queue.specs.declared.Last.{Last}
 use Rattle.queue.specs.Block.{remembered, startingLast}
-use Rattle.decide.specs.declared.Picture.{Picture}
-use Rattle.decide.specs.Damage.{legalPicture, undamaged}
-use Rattle.decide.proofs.DamageLaws.{LegalPicture, legal-picture, is-undamaged}
+use Rattle.decide.specs.declared.Chosen.{Chosen}
+use Rattle.decide.specs.Damage.{legalChosen, undamaged}
+use Rattle.decide.proofs.DamageLaws.{LegalChosen, legal-chosen, is-undamaged}
 use Rattle.implicit.specs.declared.state.State.{State}
 use Rattle.implicit.specs.Record.{pixelCount, pixelCells, soundLast, soundCounts, soundRing, soundUse, soundRecord, queueEmpty, putLast}
 
@@ -38,7 +38,7 @@ pub sound-last-as : (l : Last) (m n theta t : Bool) → m ≡ legalInterval (l .
 unfolding soundLast
 sound-last-as l m n theta t e f g h = rw (e, f, g, h)
 
-pub sound-record-as : (len : ℕ) (s : State) (p c r u f b : Bool) → p ≡ legalPicture (s .picture) → c ≡ soundCounts s → r ≡ soundRing len s
+pub sound-record-as : (len : ℕ) (s : State) (p c r u f b : Bool) → p ≡ legalChosen (s .chosen) → c ≡ soundCounts s → r ≡ soundRing len s
     → u ≡ soundUse s → f ≡ soundLast (s .front) → b ≡ soundLast (s .back) → p && c && r && u && f && b ≡ soundRecord len s
 unfolding soundRecord
 sound-record-as len s p c r u f b hp hc hr hu hf hb = rw (hp, hc, hr, hu, hf, hb)
@@ -77,7 +77,7 @@ pub starting-sound : soundLast startingLast ≡ true
 unfolding soundLast startingLast legalInterval wholeBound le lt eq
 starting-sound = refl
 
-pub remembered-sound : (p : Picture) (b : Block) → undamaged p b ≡ true → soundLast (remembered b) ≡ true
+pub remembered-sound : (p : Chosen) (b : Block) → undamaged p b ≡ true → soundLast (remembered b) ≡ true
 unfolding remembered
 remembered-sound p b e =
     let u = is-undamaged p b e in
@@ -95,7 +95,7 @@ remembered-sound p b e =
 -- THE RECORD
 
 pub record SoundRecord (len : ℕ) (s : State) : Type 0 where
-  pub picture : LegalPicture (s .picture)
+  pub chosen : LegalChosen (s .chosen)
   pub order : s .taken ≤ s .queued
   pub numbers : s .queued ≤ 2 ^ 32
   pub ring : s .len ≡ len
@@ -108,10 +108,10 @@ pub record SoundRecord (len : ℕ) (s : State) : Type 0 where
 pub sound-record : (len : ℕ) (s : State) → soundRecord len s ≡ true → SoundRecord len s
 unfolding soundRecord
 sound-record len s h =
-    let f = and-six (legalPicture (s .picture)) (soundCounts s) (soundRing len s) (soundUse s) (soundLast (s .front)) (soundLast (s .back)) h in
+    let f = and-six (legalChosen (s .chosen)) (soundCounts s) (soundRing len s) (soundUse s) (soundLast (s .front)) (soundLast (s .back)) h in
     let r = and-left (eqb (s .len) len && ltb (s .head) len) (leb (s .used) len) (f .2) in
     record {
-      picture = legal-picture (s .picture) (f .0);
+      chosen = legal-chosen (s .chosen) (f .0);
       order = leb-true (s .taken) (s .queued) (and-left (leb (s .taken) (s .queued)) (leb (s .queued) (2 ^ 32)) (f .1));
       numbers = leb-true (s .queued) (2 ^ 32) (and-right (leb (s .taken) (s .queued)) (leb (s .queued) (2 ^ 32)) (f .1));
       ring = eqb-true (s .len) len (and-left (eqb (s .len) len) (ltb (s .head) len) r);
@@ -125,7 +125,7 @@ sound-record len s h =
 -- a record whose use is not sound is damaged
 pub use-damaged : (len : ℕ) (s : State) → soundUse s ≡ false → soundRecord len s ≡ false
 unfolding soundRecord
-use-damaged len s h = rw h (without (legalPicture (s .picture)) (soundCounts s) (soundRing len s) (soundLast (s .front)) (soundLast (s .back)))
+use-damaged len s h = rw h (without (legalChosen (s .chosen)) (soundCounts s) (soundRing len s) (soundLast (s .front)) (soundLast (s .back)))
   where
     without : (a b c e f : Bool) → a && b && c && false && e && f ≡ false
     without true true true e f = refl
@@ -136,8 +136,8 @@ use-damaged len s h = rw h (without (legalPicture (s .picture)) (soundCounts s) 
 pub use-as : (s : State) → soundUse s ≡ true → eqb (s .used) 0 ≡ eqb (s .taken) (s .queued)
 use-as s h = beq-true (eqb (s .used) 0) (eqb (s .taken) (s .queued)) h
 
-picture-legal : (p : Picture) → LegalPicture p → legalPicture p ≡ true
-unfolding legalPicture
+picture-legal : (p : Chosen) → LegalChosen p → legalChosen p ≡ true
+unfolding legalChosen
 picture-legal p h =
     rw (
       le-leb 1 (p .width) (h .width-some),
@@ -151,7 +151,7 @@ pub record-sound : (len : ℕ) (s : State) → SoundRecord len s → soundRecord
 unfolding soundRecord
 record-sound len s h =
     rw (
-      picture-legal (s .picture) (h .picture),
+      picture-legal (s .chosen) (h .chosen),
       le-leb (s .taken) (s .queued) (h .order),
       le-leb (s .queued) (2 ^ 32) (h .numbers),
       eq-eqb (s .len) len (h .ring),
@@ -163,16 +163,16 @@ record-sound len s h =
       last-sound (s .back) (h .back),
     )
 
-pub sound-picture : (len : ℕ) (s : State) → soundRecord len s ≡ true → legalPicture (s .picture) ≡ true
+pub sound-chosen : (len : ℕ) (s : State) → soundRecord len s ≡ true → legalChosen (s .chosen) ≡ true
 unfolding soundRecord
-sound-picture len s h = and-six (legalPicture (s .picture)) (soundCounts s) (soundRing len s) (soundUse s) (soundLast (s .front)) (soundLast (s .back)) h .0
+sound-chosen len s h = and-six (legalChosen (s .chosen)) (soundCounts s) (soundRing len s) (soundUse s) (soundLast (s .front)) (soundLast (s .back)) h .0
 
 -- a legal picture has a pixel, and at most 2^30
-pub pixels-some : (p : Picture) → legalPicture p ≡ true → 1 ≤ pixelCount p
-pixels-some p e = let l = legal-picture p e in omega (arith, l .height-some, mul-le-mul-right {m = 1} {n = p .width} (p .height) (l .width-some))
+pub pixels-some : (p : Chosen) → legalChosen p ≡ true → 1 ≤ pixelCount p
+pixels-some p e = let l = legal-chosen p e in omega (arith, l .height-some, mul-le-mul-right {m = 1} {n = p .width} (p .height) (l .width-some))
 
-pub pixels-most : (p : Picture) → legalPicture p ≡ true → pixelCount p ≤ 2 ^ 30
-pixels-most p e = let l = legal-picture p e in omega (arith, l .height-most, mul-le-mul-right {m = p .width} {n = 32768} (p .height) (l .width-most))
+pub pixels-most : (p : Chosen) → legalChosen p ≡ true → pixelCount p ≤ 2 ^ 30
+pixels-most p e = let l = legal-chosen p e in omega (arith, l .height-most, mul-le-mul-right {m = p .width} {n = 32768} (p .height) (l .width-most))
 
 -- THE PIXELS' CELLS
 
@@ -184,25 +184,25 @@ keep-first t i (suc k) (c ∷ l) on off =
     rw (on i (omega arith) (omega arith)) (ap (λ (r : List Cell). c ∷ r) (keep-first t (suc i) k l (λ j p q. on j (omega arith) (omega arith)) (λ j p. off j (omega arith))))
 
 -- they are the first cells, as many as there are pixels
-pub pixel-cells : (p : Picture) (l : List ℕ) → pixelCells p l ≡ take (pixelCount p) (meanings l)
+pub pixel-cells : (p : Chosen) (l : List ℕ) → pixelCells p l ≡ take (pixelCount p) (meanings l)
 unfolding heldCells
 pixel-cells p l =
     keep-first (holdsCell (p .width) (wholePicture (p .width) (p .height))) 0 (pixelCount p) (meanings l)
     (λ j a b. whole-holds (p .width) (p .height) j (omega arith))
     (λ j a. beyond-not-held (p .width) (p .height) (wholePicture (p .width) (p .height)) j (whole-in-picture (p .width) (p .height)) (omega arith))
 
-pub pixel-cells-length : (p : Picture) (l : List ℕ) → pixelCount p ≤ length l → length (pixelCells p l) ≡ pixelCount p
+pub pixel-cells-length : (p : Chosen) (l : List ℕ) → pixelCount p ≤ length l → length (pixelCells p l) ≡ pixelCount p
 pixel-cells-length p l h = ap length (pixel-cells p l) ∙ length-take-le (pixelCount p) (meanings l) (rw (L.length-map l meaningOf) h)
 
 -- a pixel's own stands where the picture has its byte
-pub pixel-cell-at : (p : Picture) (l : List ℕ) (x y : ℕ) → x < p .width → y < p .height
+pub pixel-cell-at : (p : Chosen) (l : List ℕ) (x y : ℕ) → x < p .width → y < p .height
     → getD (pixelCells p l) (cellIndex (p .width) (p .height) x y) (Named 0) ≡ pixelCell (p .width) (p .height) x y (meanings l)
 pixel-cell-at p l x y h k =
     ap (λ (m : List Cell). getD m (cellIndex (p .width) (p .height) x y) (Named 0)) (pixel-cells p l)
     ∙ getD-take (pixelCount p) (meanings l) (cellIndex (p .width) (p .height) x y) (Named 0) (cell-below (p .width) (p .height) x y h k)
 
 -- the whole picture asks only for enough cells
-pub whole-ready : (p : Picture) (n : ℕ) → pixelCount p ≤ n → pictureReady (p .width) (p .height) (wholePicture (p .width) (p .height)) n ≡ true
+pub whole-ready : (p : Chosen) (n : ℕ) → pixelCount p ≤ n → pictureReady (p .width) (p .height) (wholePicture (p .width) (p .height)) n ≡ true
 unfolding pictureReady
 whole-ready p n h = rw (whole-in-picture (p .width) (p .height), le-leb (pixelCount p) n h)
 

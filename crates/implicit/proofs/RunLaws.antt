@@ -21,7 +21,7 @@ use Rattle.image.specs.Range.{wholePicture, inPicture, pictureReady}
 use Rattle.image.specs.Painting.{someOf, seenIf, someSeen}
 use Rattle.queue.proofs.QueueAnswers.{denied, granted}
 use Rattle.queue.proofs.RingLaws.{rest-all}
-use Rattle.decide.specs.declared.Picture.{Picture}
+use Rattle.decide.specs.declared.Chosen.{Chosen}
 use Rattle.implicit.specs.declared.state.State.{State}
 use Rattle.implicit.specs.declared.state.Stepped.{Stepped}
 use Rattle.implicit.specs.declared.state.Stepped.the-variants as St
@@ -92,7 +92,7 @@ run-finished (suc left) w tape =
 -- ONE TURN OF THE LOOP
 
 -- where the queue is empty a run ends, whatever its budget
-run-empty : (budget : ℕ) (w : World) (tape : List ℕ) → queueEmpty (w .state) ≡ true → runFrom budget w tape ≡ endedAs w (emptyEnding (w .state .picture) (w .cells))
+run-empty : (budget : ℕ) (w : World) (tape : List ℕ) → queueEmpty (w .state) ≡ true → runFrom budget w tape ≡ endedAs w (emptyEnding (w .state .chosen) (w .cells))
 unfolding runFrom
 run-empty zero w tape e = rw e
 run-empty (suc left) w tape e = rw e
@@ -157,7 +157,7 @@ module _ (budget : ℕ) (p : Progress) (ring cells tape : List ℕ) (going : p .
       let z : budget - p .steps ≡ 0 = omega arith in
       rw (z, run-more (worldOf (p .state) ring cells) (drop (p .tape) tape) e)
 
-  empty-turn : queueEmpty (p .state) ≡ true → wholeOn budget (halted p (emptyEnding (p .state .picture) cells)) (worldOf (p .state) ring cells) tape ≡ counted p rest
+  empty-turn : queueEmpty (p .state) ≡ true → wholeOn budget (halted p (emptyEnding (p .state .chosen) cells)) (worldOf (p .state) ring cells) tape ≡ counted p rest
   empty-turn e = rw (run-empty (budget - p .steps) (worldOf (p .state) ring cells) (drop (p .tape) tape) e)
 
   turn-rest : wholeOn budget (turnedOnce budget p ring cells tape) (worldOnce budget p ring cells tape) tape ≡ counted p rest
@@ -217,14 +217,14 @@ module _ (budget : ℕ) (p : Progress) (ring cells tape : List ℕ) (going : p .
         (λ e. cases (leb budget (p .steps)) (λ k. rw (e, k) same) (λ k. rw (e, k) (after (nextStep p ring cells tape) refl))))
       where
         same : Stays (worldOf (p .state) ring cells) (worldOf (p .state) ring cells)
-        same = record { picture = refl; ring = refl; cells = refl }
+        same = record { chosen = refl; ring = refl; cells = refl }
 
         after : (s : StepEnd) → nextStep p ring cells tape ≡ s → Stays (worldOf (p .state) ring cells) (worldAfter (worldOf (p .state) ring cells) s)
-        after (refused why) f = record { picture = refl; ring = refl; cells = refl }
+        after (refused why) f = record { chosen = refl; ring = refl; cells = refl }
         after (finished next evals bytes) f = step-stays true (worldOf (p .state) ring cells) (drop (p .tape) tape) next evals bytes f
 
-    pub turn-enough : leb (pixelCount (p .state .picture)) (length cells) ≡ true → leb (pixelCount (r .state .picture)) (length cells′) ≡ true
-    turn-enough h = let s = turn-stays in rw (s .picture, s .cells) h
+    pub turn-enough : leb (pixelCount (p .state .chosen)) (length cells) ≡ true → leb (pixelCount (r .state .chosen)) (length cells′) ≡ true
+    turn-enough h = let s = turn-stays in rw (s .chosen, s .cells) h
 
 -- THE BEGINNING AND THE END OF THE LOOP
 
@@ -263,7 +263,7 @@ run-end budget p ring cells tape e f h =
 -- BY THE TESTS THAT THE CODE MAKES
 
 module _ (budget : ℕ) (p : Progress) (ring cells tape : List ℕ) (t : Bool) (is-t : t ≡ queueEmpty (p .state)) where
-  pub once-empty : (r : Progress) (e : Ending) → t ≡ true → e ≡ emptyEnding (p .state .picture) cells → r ≡ halted p e → SoundByUse (length ring) (p .state)
+  pub once-empty : (r : Progress) (e : Ending) → t ≡ true → e ≡ emptyEnding (p .state .chosen) cells → r ≡ halted p e → SoundByUse (length ring) (p .state)
       → (r ≡ turnedOnce budget p ring cells tape) × (worldOf (r .state) ring cells ≡ worldOnce budget p ring cells tape) × SoundByUse (length ring) (r .state)
   unfolding turnedOnce worldOnce
   once-empty r e h f g s = let u : queueEmpty (p .state) ≡ true = sym is-t ∙ h in (rw (u, g, f), rw (u, g), rw g s)
@@ -325,7 +325,7 @@ module _ (p : Progress) (ring cells tape : List ℕ) (a : Stepped) (ring′ cell
           (omega (arith, few .1), omega (arith, few .2))
 
 -- the ending of an empty queue, by what is seen of given-up cells
-seen-abandoned : (p : Picture) (cells : List ℕ) → leb (pixelCount p) (length cells) ≡ true
+seen-abandoned : (p : Chosen) (cells : List ℕ) → leb (pixelCount p) (length cells) ≡ true
     → someSeen (p .width) (p .height) (wholePicture (p .width) (p .height)) K.Abandoned cells ≡ seenIf (someOf isGivenUp (pixelCells p cells))
 unfolding someSeen ofKind pictureReady inPicture
 seen-abandoned p cells h =
@@ -344,7 +344,7 @@ seen-ending : (t : Bool) → endingSeen (seenIf t) ≡ cond t E.Limit E.Done
 seen-ending true = refl
 seen-ending false = refl
 
-pub ending-as : (p : Picture) (cells : List ℕ) (x : PixelRange) (a v : Seen) → leb (pixelCount p) (length cells) ≡ true → x ≡ wholePicture (p .width) (p .height)
+pub ending-as : (p : Chosen) (cells : List ℕ) (x : PixelRange) (a v : Seen) → leb (pixelCount p) (length cells) ≡ true → x ≡ wholePicture (p .width) (p .height)
     → a ≡ someSeen (p .width) (p .height) x K.Abandoned cells → a ≡ v → endingSeen v ≡ emptyEnding p cells
 ending-as p cells x a v h e f g =
     ap endingSeen (sym g ∙ f ∙ ap (λ (r : PixelRange). someSeen (p .width) (p .height) r K.Abandoned cells) e ∙ seen-abandoned p cells h)
@@ -356,19 +356,19 @@ module _ (budget : ℕ) (s : State) (ring cells tape : List ℕ) (t : Bool) (is-
   unfolding runOf
   run-damaged h = let u : soundRecord (length ring) s ≡ false = sym is-t ∙ denied t h in rw u (refl, refl, refl)
 
-  module _ (h : not t ≡ false) (n : ℕ) (is-n : n ≡ pixelCount (s .picture)) where
+  module _ (h : not t ≡ false) (n : ℕ) (is-n : n ≡ pixelCount (s .chosen)) where
     pub run-short : length cells < n → RunsAs (worldOf s ring cells) (runOf budget (worldOf s ring cells) tape) (A.Refused R.Cells s) ring cells
     unfolding runOf
     run-short k =
         let u : soundRecord (length ring) s ≡ true = sym is-t ∙ granted t h in
-        let l : length cells < pixelCount (s .picture) = rw is-n at k in
-        rw (u, lt-leb (pixelCount (s .picture)) (length cells) l) (refl, refl, refl)
+        let l : length cells < pixelCount (s .chosen) = rw is-n at k in
+        rw (u, lt-leb (pixelCount (s .chosen)) (length cells) l) (refl, refl, refl)
 
     pub run-sound : soundRecord (length ring) s ≡ true
     run-sound = sym is-t ∙ granted t h
 
-    pub run-enough : n ≤ length cells → leb (pixelCount (s .picture)) (length cells) ≡ true
-    run-enough k = le-leb (pixelCount (s .picture)) (length cells) (rw is-n at k)
+    pub run-enough : n ≤ length cells → leb (pixelCount (s .chosen)) (length cells) ≡ true
+    run-enough k = le-leb (pixelCount (s .chosen)) (length cells) (rw is-n at k)
 
     pub run-done : n ≤ length cells → (p : Progress) (r : Ran) (ring′ cells′ : List ℕ) → RunTo (runFrom budget (worldOf s ring cells) tape) p ring′ cells′
         → r ≡ A.Ended (p .state) (p .steps) (p .evaluations) (p .tape) (p .ending)

@@ -50,8 +50,8 @@ limit-not-more h = let z : _≡_ {A = ℕ} 0 1 = cc in absurd (omega arith)
 done-not-more : {X : Type 0} → E.Done ≡ E.More → X
 done-not-more h = let z : _≡_ {A = ℕ} 0 1 = cc in absurd (omega arith)
 
-not-more : (w : World) {X : Type 0} → emptyEnding (w .state .picture) (w .cells) ≡ E.More → X
-not-more w e = cases (someOf isGivenUp (pixelCells (w .state .picture) (w .cells))) (λ t. limit-not-more (rw t at e)) (λ t. done-not-more (rw t at e))
+not-more : (w : World) {X : Type 0} → emptyEnding (w .state .chosen) (w .cells) ≡ E.More → X
+not-more w e = cases (someOf isGivenUp (pixelCells (w .state .chosen) (w .cells))) (λ t. limit-not-more (rw t at e)) (λ t. done-not-more (rw t at e))
 
 gone-resumed : (a b : ℕ) (w : World) (tape : List ℕ) (s : StepEnd)
     → ((v : World) (n : ℕ) → runFrom a v (drop n tape) .ending ≡ E.More → runFrom (a + b) v (drop n tape) ≡ joined (runFrom a v (drop n tape)) (resumed b (runFrom a v (drop n tape)) (drop n tape)))

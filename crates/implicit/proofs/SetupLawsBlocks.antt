@@ -30,7 +30,7 @@ use Rattle.queue.specs.Code.{legalIfUsed}
 use Rattle.queue.proofs.RoundTrip.{ParameterFine, CanQueue}
 use Rattle.queue.proofs.KeptLaws.{line-fine, fine-legal}
 use Rattle.queue.proofs.QueueLaws.{Every}
-use Rattle.decide.specs.declared.Picture.{Picture}
+use Rattle.decide.specs.declared.Chosen.{Chosen}
 use Rattle.decide.specs.Damage.{undamaged, directionRight, directionOf, cuttable}
 use Rattle.decide.proofs.DamageLaws.{undamaged-is}
 use Rattle.implicit.specs.declared.state.Ranges.{Ranges}
@@ -45,11 +45,11 @@ abbrev pub RangesHeld : Ranges → Type 0
 RangesHeld r = InFormat (r .m) × InFormat (r .n) × InFormat (r .theta) × InFormat (r .t)
 
 -- where the first blocks stand
-abbrev pub startCoordinate : Picture → Coordinate
+abbrev pub startCoordinate : Chosen → Coordinate
 startCoordinate p = record { index = 0; rank = 48 + startLevel p }
 
 -- a first block: at (0,0) on the start level, direction 0, each used parameter legal, put and of f64s, each other one the whole line
-pub record FirstBlock (p : Picture) (b : Block) : Type 0 where
+pub record FirstBlock (p : Chosen) (b : Block) : Type 0 where
   pub x : b .x ≡ startCoordinate p
   pub y : b .y ≡ startCoordinate p
   pub dir : b .dir ≡ 0
@@ -85,7 +85,7 @@ module _ (set : ℕ) (d : Direction) (x : Interval) (f : InFormat x) (h : legalI
 
 -- THE BLOCKS
 
-module _ (p : Picture) (r : Ranges) (held : RangesHeld r) (ok : rangesLegal (p .set) r ≡ true) where
+module _ (p : Chosen) (r : Ranges) (held : RangesHeld r) (ok : rangesLegal (p .set) r ≡ true) where
   root-first : FirstBlock p (rootBlock p r)
   unfolding rootBlock
   root-first =
@@ -134,11 +134,11 @@ module _ (p : Picture) (r : Ranges) (held : RangesHeld r) (ok : rangesLegal (p .
 
 -- ONE OF THEM
 
-start-ranged : (p : Picture) → Ranged 16 (48 + startLevel p) 0
+start-ranged : (p : Chosen) → Ranged 16 (48 + startLevel p) 0
 start-ranged p = record { low = omega (arith, level-most p); high = omega (arith, level-most p); bound = lit< tt }
 
 -- it comes out of the queue as it went in
-pub first-can : (p : Picture) (b : Block) → FirstBlock p b → CanQueue (p .set) b
+pub first-can : (p : Chosen) (b : Block) → FirstBlock p b → CanQueue (p .set) b
 first-can p b f = record { x = rw (f .x) (start-ranged p); y = rw (f .y) (start-ranged p); fine = fine }
   where
     fine : (d : Direction) → ParameterFine (inUse (p .set) d) (isInteger d) (parameterOf b d)
@@ -148,19 +148,19 @@ first-can p b f = record { x = rw (f .x) (start-ranged p); y = rw (f .y) (start-
     fine D.Theta = f .theta
     fine D.T = f .t
 
-start-legal : (p : Picture) → legal ordinaryFloor (startCoordinate p) ≡ true
+start-legal : (p : Chosen) → legal ordinaryFloor (startCoordinate p) ≡ true
 unfolding inRange
 start-legal p =
     let l = level-most p in
     and-both (leb 16 (48 + startLevel p) && ltb (48 + startLevel p) 64) (ltb 0 (2 ^ 47))
     (and-both (leb 16 (48 + startLevel p)) (ltb (48 + startLevel p) 64) (le-leb 16 (48 + startLevel p) (omega arith)) (lt-ltb (48 + startLevel p) 64 (omega arith))) refl
 
-start-inside : (p : Picture) (side : ℕ) → 1 ≤ side → side ≤ 2 ^ startLevel p → inside side (48 + startLevel p) 0 ≡ true
+start-inside : (p : Chosen) (side : ℕ) → 1 ≤ side → side ≤ 2 ^ startLevel p → inside side (48 + startLevel p) 0 ≡ true
 unfolding inside
 start-inside p side h k = rw (places-one side (startLevel p) h k)
 
 -- direction 0 is the first in use, or right because there is none
-start-directed : (p : Picture) (b : Block) → b .dir ≡ 0 → 16 < b .x .rank → directionRight p b (directionOf p b) ≡ true
+start-directed : (p : Chosen) (b : Block) → b .dir ≡ 0 → 16 < b .x .rank → directionRight p b (directionOf p b) ≡ true
 start-directed p b e h = ap (λ (n : ℕ). directionRight p b (directionAt (directions (p .set)) n)) e ∙ go (directions (p .set)) refl
   where
     along : (d : Direction) → cuttable b d ≡ true
@@ -175,7 +175,7 @@ start-directed p b e h = ap (λ (n : ℕ). directionRight p b (directionAt (dire
     go (d ∷ ds) f = unfold directionAt in rw f (along d)
 
 -- it is not damaged
-pub first-undamaged : (p : Picture) (b : Block) → FirstBlock p b → 1 ≤ p .width → p .width ≤ 32768 → 1 ≤ p .height → p .height ≤ 32768 → undamaged p b ≡ true
+pub first-undamaged : (p : Chosen) (b : Block) → FirstBlock p b → 1 ≤ p .width → p .width ≤ 32768 → 1 ≤ p .height → p .height ≤ 32768 → undamaged p b ≡ true
 first-undamaged p b f w w' h h' =
     let l = level-most p in
     undamaged-is p b record {
@@ -192,7 +192,7 @@ first-undamaged p b f w w' h h' =
     }
 
 -- IT COVERS EVERY PIXEL
-pub first-covers : (p : Picture) (b : Block) → FirstBlock p b → p .width ≤ 32768 → p .height ≤ 32768 → (x y : ℕ) → x < p .width → y < p .height
+pub first-covers : (p : Chosen) (b : Block) → FirstBlock p b → p .width ≤ 32768 → p .height ≤ 32768 → (x y : ℕ) → x < p .width → y < p .height
     → (covers1 (b .x .rank) (b .x .index) x ≡ true) × (covers1 (b .y .rank) (b .y .index) y ≡ true)
 first-covers p b f w h x y i j =
     (rw (f .x) (root-covers (p .width) (startLevel p) x (level-width p w h) i), rw (f .y) (root-covers (p .height) (startLevel p) y (level-height p w h) j))

@@ -24,7 +24,7 @@ use Rattle.queue.specs.Code.{legalIfUsed, parametersLegal}
 use Rattle.queue.proofs.QueueableLaws.{each-legal}
 use Rattle.interval.proofs.ProperPieces.{Each}
 use Rattle.queue.proofs.QueueLaws.{Every}
-use Rattle.decide.specs.declared.Picture.{Picture}
+use Rattle.decide.specs.declared.Chosen.{Chosen}
 use Rattle.decide.specs.Damage.{legalSet}
 use Rattle.implicit.specs.declared.state.Ranges.{Ranges}
 use Rattle.implicit.specs.declared.begin.Product.{Product}
@@ -213,7 +213,7 @@ each-any : (ps : List Interval) → Each (λ p. Unit {0}) ps
 each-any [] = tt
 each-any (p ∷ ps) = (tt, each-any ps)
 
-module _ (p : Picture) (r : Ranges) where
+module _ (p : Chosen) (r : Ranges) where
   -- the blocks that are not cut along these parameters yet
   abbrev UncutT : Block → Type 0
   UncutT b = b .t ≡ settledAt (inUse (p .set) D.T) (r .t)

@@ -6,7 +6,7 @@ use native.Mathlib.Nat.{one-mul, le-max-left, le-max-right, max-le, le-trans}
 use native.Mathlib.Decide.{decLe}
 use lib.Pow.{pow-mono, shl-exact}
 use borrow.Author.Tests.{le-leb, lt-leb}
-use Rattle.decide.specs.declared.Picture.{Picture}
+use Rattle.decide.specs.declared.Chosen.{Chosen}
 use Rattle.implicit.specs.Setup.{leastFrom, startLevel}
 
 -- ONE TRY
@@ -44,7 +44,7 @@ level-found k side h l =
 pub level-end : (k side : ℕ) → k ≡ 15 → 15 ≡ leastFrom (15 - k) k side
 level-end k side h = rw h (sym (least-none 15 side))
 
-pub level-is : (p : Picture) (side : ℕ) → side ≡ max (p .width) (p .height) → leastFrom 15 0 side ≡ startLevel p
+pub level-is : (p : Chosen) (side : ℕ) → side ≡ max (p .width) (p .height) → leastFrom 15 0 side ≡ startLevel p
 unfolding startLevel
 level-is p side e = ap (leastFrom 15 0) e
 
@@ -78,20 +78,20 @@ least-least (suc n) k side j h b = elim (decLe side (2 ^ k)) [
     ]
 
 -- THE START LEVEL IS AT MOST 15
-pub level-most : (p : Picture) → startLevel p ≤ 15
+pub level-most : (p : Chosen) → startLevel p ≤ 15
 unfolding startLevel
 level-most p = least-most 15 0 (max (p .width) (p .height))
 
 -- 2 ^ k HOLDS BOTH SIDES
-pub level-width : (p : Picture) → p .width ≤ 32768 → p .height ≤ 32768 → p .width ≤ 2 ^ startLevel p
+pub level-width : (p : Chosen) → p .width ≤ 32768 → p .height ≤ 32768 → p .width ≤ 2 ^ startLevel p
 unfolding startLevel
 level-width p w h = le-trans (le-max-left (p .width) (p .height)) (least-holds 15 0 (max (p .width) (p .height)) (max-le w h))
 
-pub level-height : (p : Picture) → p .width ≤ 32768 → p .height ≤ 32768 → p .height ≤ 2 ^ startLevel p
+pub level-height : (p : Chosen) → p .width ≤ 32768 → p .height ≤ 32768 → p .height ≤ 2 ^ startLevel p
 unfolding startLevel
 level-height p w h = le-trans (le-max-right (p .width) (p .height)) (least-holds 15 0 (max (p .width) (p .height)) (max-le w h))
 
 -- AND NO SMALLER k DOES
-pub level-least : (p : Picture) (j : ℕ) → p .width ≤ 2 ^ j → p .height ≤ 2 ^ j → startLevel p ≤ j
+pub level-least : (p : Chosen) (j : ℕ) → p .width ≤ 2 ^ j → p .height ≤ 2 ^ j → startLevel p ≤ j
 unfolding startLevel
 level-least p j w h = least-least 15 0 (max (p .width) (p .height)) j (omega arith) (max-le w h)

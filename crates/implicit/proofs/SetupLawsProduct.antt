@@ -16,16 +16,16 @@ use Rattle.queue.specs.declared.directions.Direction.{Direction}
 use Rattle.queue.specs.declared.directions.Direction.the-variants as D
 use Rattle.queue.specs.Directions.{inUse}
 use Rattle.queue.specs.Block.{wholeLine, isInteger, withParameter, settled}
-use Rattle.decide.specs.declared.Picture.{Picture}
+use Rattle.decide.specs.declared.Chosen.{Chosen}
 use Rattle.implicit.specs.declared.state.Ranges.{Ranges}
 use Rattle.implicit.specs.declared.begin.Product.{Product}
-use Rattle.implicit.specs.declared.begin.Chosen.{Chosen}
+use Rattle.implicit.specs.declared.begin.Picked.{Picked}
 use Rattle.implicit.specs.Setup.{startLevel, rootBlock}
-use Rattle.implicit.specs.Product.{piecesKept, productOf, pieceCount, pieceAt, chosenBy, productCount, productAt}
+use Rattle.implicit.specs.Product.{piecesKept, productOf, pieceCount, pieceAt, pickedBy, productCount, productAt}
 
 -- THE WHOLE BLOCK
 
-pub root-made : (p : Picture) (r : Ranges) (k : ℕ) → k ≡ startLevel p
+pub root-made : (p : Chosen) (r : Ranges) (k : ℕ) → k ≡ startLevel p
     → settled (p .set) (record { x = record { index = 0; rank = 48 + k }; y = record { index = 0; rank = 48 + k }; m = r .m; n = r .n; theta = r .theta; t = r .t; dir = 0 }) ≡ rootBlock p r
 unfolding settled rootBlock
 root-made p r k e = rw e
@@ -100,18 +100,18 @@ some f h =
 
 -- WHAT IS CHOSEN
 
-pub chosen-made : (k : Chosen) (d : Direction) (c : Pieces) (n : ℕ) (piece : Interval) (block : Block) → n ≡ pieceCount c → piece ≡ pieceAt c (k .left % n) → block ≡ withParameter (k .block) d piece
-    → record { block = block; left = k .left / n } ≡ chosenBy d c k
-chosen-made k d c n piece block e f g = rw (g, f, e)
+pub picked-made : (k : Picked) (d : Direction) (c : Pieces) (n : ℕ) (piece : Interval) (block : Block) → n ≡ pieceCount c → piece ≡ pieceAt c (k .left % n) → block ≡ withParameter (k .block) d piece
+    → record { block = block; left = k .left / n } ≡ pickedBy d c k
+picked-made k d c n piece block e f g = rw (g, f, e)
 
-pub product-made : (p : Picture) (r : Ranges) (root : Block) (m n theta t : Pieces) → root ≡ rootBlock p r → m ≡ piecesKept (p .set) D.M (r .m) → n ≡ piecesKept (p .set) D.N (r .n)
+pub product-made : (p : Chosen) (r : Ranges) (root : Block) (m n theta t : Pieces) → root ≡ rootBlock p r → m ≡ piecesKept (p .set) D.M (r .m) → n ≡ piecesKept (p .set) D.N (r .n)
     → theta ≡ piecesKept (p .set) D.Theta (r .theta) → t ≡ piecesKept (p .set) D.T (r .t) → record { root = root; m = m; n = n; theta = theta; t = t } ≡ productOf p r
 unfolding productOf
 product-made p r root m n theta t e f g h i = rw (e, f, g, h, i)
 
-pub at-made : (f : Product) (i : ℕ) (k₁ k₂ k₃ k₄ : Chosen) → k₁ ≡ chosenBy D.T (f .t) (record { block = f .root; left = i }) → k₂ ≡ chosenBy D.Theta (f .theta) k₁
-    → k₃ ≡ chosenBy D.N (f .n) k₂ → k₄ ≡ chosenBy D.M (f .m) k₃ → k₄ .block ≡ productAt f i
+pub at-made : (f : Product) (i : ℕ) (k₁ k₂ k₃ k₄ : Picked) → k₁ ≡ pickedBy D.T (f .t) (record { block = f .root; left = i }) → k₂ ≡ pickedBy D.Theta (f .theta) k₁
+    → k₃ ≡ pickedBy D.N (f .n) k₂ → k₄ ≡ pickedBy D.M (f .m) k₃ → k₄ .block ≡ productAt f i
 unfolding productAt
 at-made f i k₁ k₂ k₃ k₄ e g h l =
-    ap (λ (k : Chosen). k .block)
-    (l ∙ ap (chosenBy D.M (f .m)) (h ∙ ap (chosenBy D.N (f .n)) (g ∙ ap (chosenBy D.Theta (f .theta)) e)))
+    ap (λ (k : Picked). k .block)
+    (l ∙ ap (pickedBy D.M (f .m)) (h ∙ ap (pickedBy D.N (f .n)) (g ∙ ap (pickedBy D.Theta (f .theta)) e)))

@@ -21,7 +21,7 @@ use Rattle.queue.proofs.RingLaws.{length-stored, store-append}
 use Rattle.queue.proofs.QueueLaws.{encode-some}
 use Rattle.queue.proofs.RoundTrip.{CanQueue, Known}
 use Rattle.queue.proofs.KeptLaws.{known-after, known-start}
-use Rattle.decide.specs.declared.Picture.{Picture}
+use Rattle.decide.specs.declared.Chosen.{Chosen}
 use Rattle.implicit.specs.declared.state.Ranges.{Ranges}
 use Rattle.implicit.specs.declared.begin.Product.{Product}
 use Rattle.implicit.specs.declared.begin.Behind.{Behind}
@@ -124,7 +124,7 @@ module _ (set : ℕ) (bs : List Block) (ring₀ : List ℕ) (i : ℕ) (k : Behin
       })
 
 -- nothing is left
-pub queue-end : (p : Picture) (r : Ranges) (f : Product) (ring₀ ring : List ℕ) (i : ℕ) (k : Behind) → f ≡ productOf p r → rangesLegal (p .set) r ≡ true → length (productList f) ≤ i
+pub queue-end : (p : Chosen) (r : Ranges) (f : Product) (ring₀ ring : List ℕ) (i : ℕ) (k : Behind) → f ≡ productOf p r → rangesLegal (p .set) r ≡ true → length (productList f) ≤ i
     → Queueing (p .set) (productList f) ring₀ i k ring → (k ≡ behindFirst p r) × (ring ≡ startRing p r ring₀)
 unfolding behindFirst startRing firstBytes queueCodes memory stored
 queue-end p r f ring₀ ring i k e ok h q =

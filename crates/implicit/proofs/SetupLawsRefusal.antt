@@ -9,7 +9,7 @@ use Rattle.base.proofs.Test.{and-left, and-right}
 use Rattle.refusal.specs.declared.Refusal.{Refusal}
 use Rattle.refusal.specs.declared.Refusal.the-variants as R
 use Rattle.queue.proofs.QueueAnswers.{denied, granted}
-use Rattle.decide.specs.declared.Picture.{Picture}
+use Rattle.decide.specs.declared.Chosen.{Chosen}
 use Rattle.decide.specs.Damage.{legalSide}
 use Rattle.implicit.specs.declared.state.Needed.{Needed}
 use Rattle.implicit.specs.declared.state.Needed.the-variants as N
@@ -18,18 +18,17 @@ use Rattle.implicit.specs.declared.begin.SetupEnd.{SetupEnd}
 use Rattle.implicit.specs.declared.begin.SetupEnd.the-variants as E
 use Rattle.implicit.specs.Record.{pixelCount}
 use Rattle.implicit.specs.Setup.{rangesLegal, firstBytes, setupRefusal, leastRing}
-use Rattle.implicit.specs.Answers.{neededBytes}
 
 hasNeed : Needed → Bool
 hasNeed (N.Bytes n) = true
 hasNeed (N.Refused why) = false
 
-needs-first : (t : Bool) (e : Needed) (n : ℕ) (why : Refusal) → cond t e (N.Refused why) ≡ N.Bytes n → (t ≡ true) × (e ≡ N.Bytes n)
+pub needs-first : (t : Bool) (e : Needed) (n : ℕ) (why : Refusal) → cond t e (N.Refused why) ≡ N.Bytes n → (t ≡ true) × (e ≡ N.Bytes n)
 unfolding hasNeed
 needs-first true e n why h = (refl, h)
 needs-first false e n why h = absurd (false≢true (ap hasNeed h))
 
-module _ (p : Picture) (r : Ranges) (len count : ℕ) where
+module _ (p : Chosen) (r : Ranges) (len count : ℕ) where
   module _ (a b : Bool) (ea : a ≡ legalSide (p .width)) (eb : b ≡ legalSide (p .height)) where
     pub refused-side : not (a && b) ≡ true → E.Rejected R.Side ≡ setupRefusal p r len count
     unfolding setupRefusal
@@ -58,7 +57,7 @@ module _ (p : Picture) (r : Ranges) (len count : ℕ) where
           not-refused h = rw (legal-sides, le-leb (p .width * p .height) count enough, sym el ∙ granted l legal, ← et, le-leb total len h)
 
 -- THE LEAST RING
-module _ (p : Picture) (r : Ranges) (a b : Bool) (ea : a ≡ legalSide (p .width)) (eb : b ≡ legalSide (p .height)) where
+module _ (p : Chosen) (r : Ranges) (a b : Bool) (ea : a ≡ legalSide (p .width)) (eb : b ≡ legalSide (p .height)) where
   pub least-side : not (a && b) ≡ true → N.Refused R.Side ≡ leastRing p r
   unfolding leastRing
   least-side h = let e : legalSide (p .width) && legalSide (p .height) ≡ false = rw (← ea, ← eb) (denied (a && b) h) in rw e
@@ -75,17 +74,8 @@ module _ (p : Picture) (r : Ranges) (a b : Bool) (ea : a ≡ legalSide (p .width
     unfolding leastRing
     least-bytes legal total et = rw (both-legal, sym el ∙ granted l legal, et)
 
--- a setup with enough cells begins exactly if its ring is no shorter
-pub least-suffices : (p : Picture) (r : Ranges) (len count n : ℕ) → leastRing p r ≡ N.Bytes n → pixelCount p ≤ count → n ≤ len → setupRefusal p r len count ≡ E.Begun
-unfolding leastRing setupRefusal
-least-suffices p r len count n e cells room =
-    let (sides, e₁) = needs-first (legalSide (p .width) && legalSide (p .height)) _ n R.Side e in
-    let (ranges, e₂) = needs-first (rangesLegal (p .set) r) _ n R.Parameter e₁ in
-    let total : length (firstBytes p r) ≡ n = ap neededBytes e₂ in
-    rw (sides, le-leb (pixelCount p) count cells, ranges, total, le-leb n len room)
-
 -- AN ACCEPTED SETUP
-pub record Accepted (p : Picture) (r : Ranges) (len count : ℕ) : Type 0 where
+pub record Accepted (p : Chosen) (r : Ranges) (len count : ℕ) : Type 0 where
   pub width-some : 1 ≤ p .width
   pub width-most : p .width ≤ 32768
   pub height-some : 1 ≤ p .height
@@ -103,7 +93,7 @@ unfolding begins
 first-of true e f g h = (refl, h)
 first-of false e f g h = absurd (false≢true (sym g ∙ ap begins h))
 
-pub accepted : (p : Picture) (r : Ranges) (len count : ℕ) → setupRefusal p r len count ≡ E.Begun → Accepted p r len count
+pub accepted : (p : Chosen) (r : Ranges) (len count : ℕ) → setupRefusal p r len count ≡ E.Begun → Accepted p r len count
 unfolding setupRefusal begins
 accepted p r len count e =
     let w = legalSide (p .width) in

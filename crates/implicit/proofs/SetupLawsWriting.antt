@@ -21,7 +21,7 @@ use Rattle.queue.proofs.QueueableLaws.{encode-few}
 use Rattle.queue.proofs.RoundTrip.{CanQueue, Known}
 use Rattle.queue.proofs.KeptLaws.{known-after, known-start, known-test, can-test}
 use Rattle.queue.proofs.QueueLaws.{Every}
-use Rattle.decide.specs.declared.Picture.{Picture}
+use Rattle.decide.specs.declared.Chosen.{Chosen}
 use Rattle.implicit.specs.declared.state.Ranges.{Ranges}
 use Rattle.implicit.specs.declared.begin.Product.{Product}
 use Rattle.implicit.specs.declared.begin.Behind.{Behind}
@@ -47,10 +47,10 @@ module _ (f : Product) (n i : ℕ) (b : Block) (counts : n ≡ productCount f) (
   block-has P h = subst P block-is (every-at P b (productList f) i h within)
 
 -- every block of a legal setup's product can be queued
-pub product-can : (p : Picture) (r : Ranges) (f : Product) → f ≡ productOf p r → RangesHeld r → rangesLegal (p .set) r ≡ true → Every (CanQueue (p .set)) (productList f)
+pub product-can : (p : Chosen) (r : Ranges) (f : Product) → f ≡ productOf p r → RangesHeld r → rangesLegal (p .set) r ≡ true → Every (CanQueue (p .set)) (productList f)
 product-can p r f e held ok = rw e (every-sub (FirstBlock p) (CanQueue (p .set)) (first-can p) (productList (productOf p r)) (product-first p r held ok))
 
-pub product-bytes : (p : Picture) (r : Ranges) (f : Product) → f ≡ productOf p r → rangesLegal (p .set) r ≡ true → queueCodes (p .set) startingLast (productList f) ≡ firstBytes p r
+pub product-bytes : (p : Chosen) (r : Ranges) (f : Product) → f ≡ productOf p r → rangesLegal (p .set) r ≡ true → queueCodes (p .set) startingLast (productList f) ≡ firstBytes p r
 unfolding firstBytes
 product-bytes p r f e ok = rw (e, first-is p r ok)
 

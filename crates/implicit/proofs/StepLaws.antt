@@ -27,11 +27,11 @@ use Rattle.queue.specs.Queue.{taken, takenWith}
 use Rattle.queue.proofs.QueueAnswers.{fits-both}
 use Rattle.queue.proofs.BlockReading.{inside-read, decode-inside}
 use Rattle.queue.proofs.RingLaws.{content-length}
-use Rattle.decide.specs.declared.Picture.{Picture}
+use Rattle.decide.specs.declared.Chosen.{Chosen}
 use Rattle.decide.specs.declared.children.Children.{Children}
 use Rattle.queue.proofs.RoundTrip.{CanQueue}
 use Rattle.plan.specs.declared.Plan.{Plan}
-use Rattle.decide.specs.Damage.{legalPicture, undamaged, cellDamaged, sound}
+use Rattle.decide.specs.Damage.{legalChosen, undamaged, cellDamaged, sound}
 use Rattle.decide.specs.Children.{childrenOf, listed}
 use Rattle.plan.specs.AtOnce.{planListed}
 use Rattle.decide.specs.Verdict.{allLegal}
@@ -54,7 +54,7 @@ use Rattle.implicit.specs.Record.{pixelCount, soundRecord, putLast}
 use Rattle.implicit.specs.Listing.{frontOf}
 use Rattle.implicit.specs.Step.{World, worldOf, StepEnd, refused, finished, unless, enoughVerdicts, outcomesOf, eventsOf, newBlocks, newBytes, worldLeft, blockFine, judged, opened, stepWith, EndsAs}
 use Rattle.implicit.specs.ByChild.{openedAs, opening, Begun, blockCheck, sizeOf, planCheck, committed}
-use Rattle.implicit.proofs.RecordLaws.{sound-record, sound-picture}
+use Rattle.implicit.proofs.RecordLaws.{sound-record, sound-chosen}
 use Rattle.implicit.proofs.StepLawsKept.{Formats, AllReady, read-kept, block-fine}
 use Rattle.implicit.proofs.StepLawsByChild.{marksIn, turnsIn, queuedIn, planned-marks, planned-turns, marks-listed, turns-listed, queued-behind-marks, sized-is, leftBy, committed-is}
 
@@ -103,8 +103,8 @@ wrapped-in n p h = by-test (λ x. x < n) (ltb p n) p (p - n) (λ e. ltb-true p n
 
 -- the plan is the definition's, where there is a cell for each pixel
 pub record PlanFacts (w : World) (b : Block) (own : List ℕ) (p : Plan) : Type 0 where
-  pub legal : p .legal ≡ allLegal (childrenOf (w .state .picture) b) own
-  pub count : p .count ≡ length (childrenOf (w .state .picture) b)
+  pub legal : p .legal ≡ allLegal (childrenOf (w .state .chosen) b) own
+  pub count : p .count ≡ length (childrenOf (w .state .chosen) b)
   pub evals : p .evaluations ≡ evaluations (outcomesOf w b own)
   pub many : p .queued ≡ length (newBlocks w b own)
   pub few : p .queued ≤ 4
@@ -112,10 +112,10 @@ pub record PlanFacts (w : World) (b : Block) (own : List ℕ) (p : Plan) : Type 
   pub events : marksIn (p .at) ++ turnsIn (p .at) ≡ eventsOf w b own
   pub queued : queuedIn (p .at) ≡ newBlocks w b own
 
-plan-from : (w : World) (b : Block) (own : List ℕ) → PlanFacts w b own (planFrom (w .state .picture) b (childrenOf (w .state .picture) b) (outcomesOf w b own) own)
+plan-from : (w : World) (b : Block) (own : List ℕ) → PlanFacts w b own (planFrom (w .state .chosen) b (childrenOf (w .state .chosen) b) (outcomesOf w b own) own)
 unfolding planFrom eventsFor
 plan-from w b own =
-    let p = w .state .picture in
+    let p = w .state .chosen in
     let cs = childrenOf p b in
     let os = outcomesOf w b own in
     let turn = turned p b (openCount os) in
@@ -138,15 +138,15 @@ plan-from w b own =
       queued = q;
     }
 
-pub plan-facts : (w : World) (b : Block) (own : List ℕ) (p : Plan) → leb (pixelCount (w .state .picture)) (length (w .cells)) ≡ true → p ≡ planOf (w .state .picture) b own (meanings (w .cells))
+pub plan-facts : (w : World) (b : Block) (own : List ℕ) (p : Plan) → leb (pixelCount (w .state .chosen)) (length (w .cells)) ≡ true → p ≡ planOf (w .state .chosen) b own (meanings (w .cells))
     → PlanFacts w b own p
 unfolding planOf
 plan-facts w b own p h e =
-    let k : enoughCells (w .state .picture) (length (meanings (w .cells))) ≡ true = rw (L.length-map (w .cells) meaningOf) h in
+    let k : enoughCells (w .state .chosen) (length (meanings (w .cells))) ≡ true = rw (L.length-map (w .cells) meaningOf) h in
     rw e (rw k (plan-from w b own))
 
 -- from the children that were listed
-pub plan-is : (p : Picture) (b : Block) (vs cells : List ℕ) (k : Children) (r : Plan) → leb (pixelCount p) (length cells) ≡ true → k ≡ listed b (childrenOf p b)
+pub plan-is : (p : Chosen) (b : Block) (vs cells : List ℕ) (k : Children) (r : Plan) → leb (pixelCount p) (length cells) ≡ true → k ≡ listed b (childrenOf p b)
     → r ≡ planListed p b k vs cells → r ≡ planOf p b vs (meanings cells)
 plan-is p b vs cells k r h e f = f ∙ ap (λ (x : Children). planListed p b x vs cells) e ∙ plan-listed p b vs cells h
 
@@ -169,12 +169,12 @@ three-checks true true false u v d rest = refl
 three-checks true false c u v d rest = refl
 three-checks false b c u v d rest = refl
 
-pub opened-by : (tape : Bool) (w : World) (vs : List ℕ) (b : Block) (last : Last) (head used n : ℕ) → n ≡ length (childrenOf (w .state .picture) b)
-    → opened tape w vs (T.Front b last head used) ≡ afterCheck (blockCheck (w .state .picture) b (w .cells) n (length vs) tape) (judged w b last head used (take n vs))
+pub opened-by : (tape : Bool) (w : World) (vs : List ℕ) (b : Block) (last : Last) (head used n : ℕ) → n ≡ length (childrenOf (w .state .chosen) b)
+    → opened tape w vs (T.Front b last head used) ≡ afterCheck (blockCheck (w .state .chosen) b (w .cells) n (length vs) tape) (judged w b last head used (take n vs))
 unfolding opened unless blockCheck
 opened-by tape w vs b last head used n e =
-    rw e (sym (two-checks (blockFine (w .state .picture) (w .cells) b) (enoughVerdicts tape (length (childrenOf (w .state .picture) b)) (length vs)) R.Verdicts R.Damaged
-    (judged w b last head used (take (length (childrenOf (w .state .picture) b)) vs))))
+    rw e (sym (two-checks (blockFine (w .state .chosen) (w .cells) b) (enoughVerdicts tape (length (childrenOf (w .state .chosen) b)) (length vs)) R.Verdicts R.Damaged
+    (judged w b last head used (take (length (childrenOf (w .state .chosen) b)) vs))))
 
 -- the front block, and what follows where it is read
 abbrev pub afterOpening : Opened → (Taken → StepEnd) → StepEnd
@@ -199,9 +199,9 @@ unfolding stepWith unless opening
 step-by tape w vs h =
     let s = w .state in
     cond-yes (soundRecord (length (w .ring)) s) _ _ h
-    ∙ ap (λ (e : StepEnd). cond (leb (pixelCount (s .picture)) (length (w .cells))) (cond (ltb (s .taken) (s .queued)) e (refused R.Empty)) (refused R.Cells))
+    ∙ ap (λ (e : StepEnd). cond (leb (pixelCount (s .chosen)) (length (w .cells))) (cond (ltb (s .taken) (s .queued)) e (refused R.Empty)) (refused R.Cells))
     (opened-as tape w vs (frontOf s (w .ring)))
-    ∙ two-openings (leb (pixelCount (s .picture)) (length (w .cells))) (ltb (s .taken) (s .queued)) R.Empty R.Cells (openedAs (frontOf s (w .ring))) (opened tape w vs)
+    ∙ two-openings (leb (pixelCount (s .chosen)) (length (w .cells))) (ltb (s .taken) (s .queued)) R.Empty R.Cells (openedAs (frontOf s (w .ring))) (opened tape w vs)
 
 -- what is known once the front block is read
 opened-front : (t : Taken) (f : Front) → openedAs t ≡ P.At f → t ≡ T.Front (f .block) (f .last) (f .head) (f .used)
@@ -217,7 +217,7 @@ two-at false b u v o f e = let z : _≡_ {A = ℕ} 0 1 = cc in absurd (omega ari
 pub begun-of : (s : State) (ring cells : List ℕ) (o : Opened) (f : Front) → soundRecord (length ring) s ≡ true → o ≡ opening s ring (length cells) → o ≡ P.At f → Begun s ring cells f
 unfolding opening
 begun-of s ring cells o f r e k =
-    let h = two-at (leb (pixelCount (s .picture)) (length cells)) (ltb (s .taken) (s .queued)) R.Empty R.Cells (openedAs (frontOf s ring)) f (sym e ∙ k) in
+    let h = two-at (leb (pixelCount (s .chosen)) (length cells)) (ltb (s .taken) (s .queued)) R.Empty R.Cells (openedAs (frontOf s ring)) f (sym e ∙ k) in
     record { sound-record = r; cells-enough = h .0; not-empty = h .1; front-read = opened-front (frontOf s ring) f (h .2) }
 
 pub step-begun : (tape : Bool) (s : State) (ring cells vs : List ℕ) (f : Front) → Begun s ring cells f
@@ -240,17 +240,17 @@ unfolding stepWith unless
 ends-damaged tape s ring cells vs h = ends-refused (worldOf s ring cells) (stepWith tape (worldOf s ring cells) vs) R.Damaged (cond-no (soundRecord (length ring) s) _ _ h)
 
 -- the block's check, and what follows
-module _ (tape : Bool) (s : State) (ring cells vs : List ℕ) (f : Front) (b : Begun s ring cells f) (n : ℕ) (is-n : n ≡ length (childrenOf (s .picture) (f .block)))
-    (k : Check) (is-k : k ≡ blockCheck (s .picture) (f .block) cells n (length vs) tape) where
+module _ (tape : Bool) (s : State) (ring cells vs : List ℕ) (f : Front) (b : Begun s ring cells f) (n : ℕ) (is-n : n ≡ length (childrenOf (s .chosen) (f .block)))
+    (k : Check) (is-k : k ≡ blockCheck (s .chosen) (f .block) cells n (length vs) tape) where
   begun-by : stepWith tape (worldOf s ring cells) vs ≡ afterCheck k (judged (worldOf s ring cells) (f .block) (f .last) (f .head) (f .used) (take n vs))
   begun-by =
       step-begun tape s ring cells vs f b
       ∙ opened-by tape (worldOf s ring cells) vs (f .block) (f .last) (f .head) (f .used) n is-n
       ∙ ap (λ (x : Check). afterCheck x (judged (worldOf s ring cells) (f .block) (f .last) (f .head) (f .used) (take n vs))) (sym is-k)
 
-  both-passed : k ≡ C.Passed → (blockFine (s .picture) cells (f .block) ≡ true) × (enoughVerdicts tape n (length vs) ≡ true)
+  both-passed : k ≡ C.Passed → (blockFine (s .chosen) cells (f .block) ≡ true) × (enoughVerdicts tape n (length vs) ≡ true)
   unfolding blockCheck
-  both-passed e = two-passed (blockFine (s .picture) cells (f .block)) (enoughVerdicts tape n (length vs)) R.Verdicts R.Damaged (sym is-k ∙ e)
+  both-passed e = two-passed (blockFine (s .chosen) cells (f .block)) (enoughVerdicts tape n (length vs)) R.Verdicts R.Damaged (sym is-k ∙ e)
     where
       two-passed : (x y : Bool) (v d : Refusal) → cond x (cond y C.Passed (C.Refused v)) (C.Refused d) ≡ C.Passed → (x ≡ true) × (y ≡ true)
       two-passed true true v d e = (refl, refl)
@@ -264,7 +264,7 @@ module _ (tape : Bool) (s : State) (ring cells vs : List ℕ) (f : Front) (b : B
       go true h = leb-true n (length vs) h
       go false h = omega (arith, eqb-true (length vs) n h)
 
-  pub block-passed : k ≡ C.Passed → blockFine (s .picture) cells (f .block) ≡ true
+  pub block-passed : k ≡ C.Passed → blockFine (s .chosen) cells (f .block) ≡ true
   block-passed e = both-passed e .0
 
   pub block-refused : (why : Refusal) → k ≡ C.Refused why → EndsAs (worldOf s ring cells) (stepWith tape (worldOf s ring cells) vs) (S.Refused why s) ring cells
@@ -279,14 +279,14 @@ module _ (tape : Bool) (s : State) (ring cells vs : List ℕ) (f : Front) (b : B
 
 -- WHAT IS KNOWN BEFORE THE FIRST WRITE
 
-pub block-sound : (s : State) (ring cells : List ℕ) (f : Front) → Begun s ring cells f → blockFine (s .picture) cells (f .block) ≡ true → sound (s .picture) (f .block) ≡ true
+pub block-sound : (s : State) (ring cells : List ℕ) (f : Front) → Begun s ring cells f → blockFine (s .chosen) cells (f .block) ≡ true → sound (s .chosen) (f .block) ≡ true
 block-sound s ring cells f b h =
-    and-both (legalPicture (s .picture)) (undamaged (s .picture) (f .block)) (sound-picture (length ring) s (b .sound-record))
-    (and-left (undamaged (s .picture) (f .block)) (not (cellDamaged (s .picture) (f .block) (meanings cells))) h)
+    and-both (legalChosen (s .chosen)) (undamaged (s .chosen) (f .block)) (sound-chosen (length ring) s (b .sound-record))
+    (and-left (undamaged (s .chosen) (f .block)) (not (cellDamaged (s .chosen) (f .block) (meanings cells))) h)
 
 module _ (s : State) (ring cells : List ℕ) (f : Front) (b : Begun s ring cells f) where
-  pub front-known : FrontRead ring (s .head) (s .used) (s .picture .set) (s .front) (f .block) (f .last) (f .head) (f .used)
-  front-known = front-read ring (s .head) (s .used) (s .picture .set) (s .front) (f .block) (f .last) (f .head) (f .used) (b .front-read)
+  pub front-known : FrontRead ring (s .head) (s .used) (s .chosen .set) (s .front) (f .block) (f .last) (f .head) (f .used)
+  front-known = front-read ring (s .head) (s .used) (s .chosen .set) (s .front) (f .block) (f .last) (f .head) (f .used) (b .front-read)
 
   pub front-head : f .head < length ring
   front-head = let r = front-known in rw (r .next-head) (wrapped-in (length ring) (s .head + r .size) (omega (arith, r .head-in, r .size-in, r .used-in)))
@@ -298,10 +298,10 @@ module _ (s : State) (ring cells : List ℕ) (f : Front) (b : Begun s ring cells
   unfolding indicesKnown putLast
   back-known = let r = sound-record (length ring) s (b .sound-record) .back in rw (lt-ltb (s .back .x) (2 ^ 47) (r .x), lt-ltb (s .back .y) (2 ^ 47) (r .y))
 
-  module _ (h : blockFine (s .picture) cells (f .block) ≡ true) (formats : Formats (f .block)) (own : List ℕ) where
-    pub new-ready : AllReady (s .picture .set) (newBlocks (worldOf s ring cells) (f .block) own)
+  module _ (h : blockFine (s .chosen) cells (f .block) ≡ true) (formats : Formats (f .block)) (own : List ℕ) where
+    pub new-ready : AllReady (s .chosen .set) (newBlocks (worldOf s ring cells) (f .block) own)
     new-ready =
-        let p = s .picture in
+        let p = s .chosen in
         let w = worldOf s ring cells in
         let ok = block-sound s ring cells f b h in
         let r = front-known in
@@ -309,27 +309,27 @@ module _ (s : State) (ring cells : List ℕ) (f : Front) (b : Begun s ring cells
         each-also (λ c. (sound p c ≡ true) × CanQueue (p .set) c) (CanQueue (p .set)) (λ c q. q .1) (newBlocks w (f .block) own)
         (queued-sound p (f .block) ok (outcomesOf w (f .block) own) (block-fine p (f .block) ok k formats))
 
-    module _ (plan : Plan) (is-plan : plan ≡ planOf (s .picture) (f .block) own (meanings cells)) where
+    module _ (plan : Plan) (is-plan : plan ≡ planOf (s .chosen) (f .block) own (meanings cells)) where
       facts : PlanFacts (worldOf s ring cells) (f .block) own plan
       facts = plan-facts (worldOf s ring cells) (f .block) own plan (b .cells-enough) is-plan
 
-      size-is : sizeOf (s .picture .set) (putLast (s .back)) (plan .at) ≡ length (newBytes (worldOf s ring cells) (f .block) own)
+      size-is : sizeOf (s .chosen .set) (putLast (s .back)) (plan .at) ≡ length (newBytes (worldOf s ring cells) (f .block) own)
       size-is =
           let q = facts .queued in
           let z : Size = record { total = 0; last = putLast (s .back) } in
-          ap (λ (y : Size). y .total) (sized-is (s .picture .set) z (plan .at) (rw q new-ready) back-known)
+          ap (λ (y : Size). y .total) (sized-is (s .chosen .set) z (plan .at) (rw q new-ready) back-known)
           ∙ rw q (omega arith)
 
       -- the checks are the plan's
       pub judged-by : judged (worldOf s ring cells) (f .block) (f .last) (f .head) (f .used) own
           ≡ afterCheck (planCheck s (length ring) (f .used) plan)
-          (finished (worldLeft (worldOf s ring cells) (f .block) (f .last) (f .head) (f .used) own) (evaluations (outcomesOf (worldOf s ring cells) (f .block) own)) (length (childrenOf (s .picture) (f .block))))
+          (finished (worldLeft (worldOf s ring cells) (f .block) (f .last) (f .head) (f .used) own) (evaluations (outcomesOf (worldOf s ring cells) (f .block) own)) (length (childrenOf (s .chosen) (f .block))))
       unfolding judged unless planCheck
       judged-by =
           rw (facts .legal, facts .many, size-is)
-          (sym (three-checks (allLegal (childrenOf (s .picture) (f .block)) own) (leb (s .queued + length (newBlocks (worldOf s ring cells) (f .block) own)) (2 ^ 32))
+          (sym (three-checks (allLegal (childrenOf (s .chosen) (f .block)) own) (leb (s .queued + length (newBlocks (worldOf s ring cells) (f .block) own)) (2 ^ 32))
           (leb (f .used + length (newBytes (worldOf s ring cells) (f .block) own)) (length ring)) R.Room R.Numbers R.Verdict
-          (finished (worldLeft (worldOf s ring cells) (f .block) (f .last) (f .head) (f .used) own) (evaluations (outcomesOf (worldOf s ring cells) (f .block) own)) (length (childrenOf (s .picture) (f .block))))))
+          (finished (worldLeft (worldOf s ring cells) (f .block) (f .last) (f .head) (f .used) own) (evaluations (outcomesOf (worldOf s ring cells) (f .block) own)) (length (childrenOf (s .chosen) (f .block))))))
 
       -- what is written is the definition's, where the checks pass
       passed-room : planCheck s (length ring) (f .used) plan ≡ C.Passed
@@ -337,7 +337,7 @@ module _ (s : State) (ring cells : List ℕ) (f : Front) (b : Begun s ring cells
       unfolding planCheck
       passed-room e =
           let n = s .queued + plan .queued in
-          let u = f .used + sizeOf (s .picture .set) (putLast (s .back)) (plan .at) in
+          let u = f .used + sizeOf (s .chosen .set) (putLast (s .back)) (plan .at) in
           let t = three-passed (plan .legal) (leb n (2 ^ 32)) (leb u (length ring)) R.Room R.Numbers R.Verdict e in
           (rw (facts .many) at (leb-true n (2 ^ 32) (t .0)), rw size-is at (leb-true u (length ring) (t .1)))
         where
@@ -360,16 +360,16 @@ module _ (s : State) (ring cells : List ℕ) (f : Front) (b : Begun s ring cells
       -- the answers
       pub judge-refused : (k : Check) (why : Refusal) → k ≡ planCheck s (length ring) (f .used) plan → k ≡ C.Refused why
           → EndsAs (worldOf s ring cells) (judged (worldOf s ring cells) (f .block) (f .last) (f .head) (f .used) own) (S.Refused why s) ring cells
-      judge-refused k why e g = ends-refused (worldOf s ring cells) (judged (worldOf s ring cells) (f .block) (f .last) (f .head) (f .used) own) why (judged-by ∙ ap (λ (x : Check). afterCheck x (finished (worldLeft (worldOf s ring cells) (f .block) (f .last) (f .head) (f .used) own) (evaluations (outcomesOf (worldOf s ring cells) (f .block) own)) (length (childrenOf (s .picture) (f .block))))) (sym e ∙ g))
+      judge-refused k why e g = ends-refused (worldOf s ring cells) (judged (worldOf s ring cells) (f .block) (f .last) (f .head) (f .used) own) why (judged-by ∙ ap (λ (x : Check). afterCheck x (finished (worldLeft (worldOf s ring cells) (f .block) (f .last) (f .head) (f .used) own) (evaluations (outcomesOf (worldOf s ring cells) (f .block) own)) (length (childrenOf (s .chosen) (f .block))))) (sym e ∙ g))
 
       pub judge-finished : (k : Check) (r : State) (ring′ cells′ : List ℕ) → k ≡ planCheck s (length ring) (f .used) plan → k ≡ C.Passed
           → worldOf r ring′ cells′ ≡ committed (worldOf s ring cells) f (plan .at)
           → EndsAs (worldOf s ring cells) (judged (worldOf s ring cells) (f .block) (f .last) (f .head) (f .used) own) (S.Finished r (plan .evaluations) (plan .count)) ring′ cells′
       judge-finished k r ring′ cells′ e g c =
-          let j = judged-by ∙ ap (λ (x : Check). afterCheck x (finished (worldLeft (worldOf s ring cells) (f .block) (f .last) (f .head) (f .used) own) (evaluations (outcomesOf (worldOf s ring cells) (f .block) own)) (length (childrenOf (s .picture) (f .block))))) (sym e ∙ g) in
+          let j = judged-by ∙ ap (λ (x : Check). afterCheck x (finished (worldLeft (worldOf s ring cells) (f .block) (f .last) (f .head) (f .used) own) (evaluations (outcomesOf (worldOf s ring cells) (f .block) own)) (length (childrenOf (s .chosen) (f .block))))) (sym e ∙ g) in
           let l : worldOf r ring′ cells′ ≡ worldLeft (worldOf s ring cells) (f .block) (f .last) (f .head) (f .used) own = c ∙ committed-left (sym e ∙ g) in
           rw j (
-            rw (facts .evals, facts .count) (ap (λ (x : World). S.Finished (x .state) (evaluations (outcomesOf (worldOf s ring cells) (f .block) own)) (length (childrenOf (s .picture) (f .block)))) l),
+            rw (facts .evals, facts .count) (ap (λ (x : World). S.Finished (x .state) (evaluations (outcomesOf (worldOf s ring cells) (f .block) own)) (length (childrenOf (s .chosen) (f .block)))) l),
             ap (λ (x : World). x .ring) l,
             ap (λ (x : World). x .cells) l,
           )

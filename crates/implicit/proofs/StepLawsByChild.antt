@@ -29,7 +29,7 @@ use Rattle.queue.specs.Code.{encode, indicesKnown}
 use Rattle.queue.specs.Queue as Queue
 use Rattle.queue.specs.Queue.{measured, appended, appendedRing}
 use Rattle.queue.proofs.RingLaws.{store-append, length-stored}
-use Rattle.decide.specs.declared.Picture.{Picture}
+use Rattle.decide.specs.declared.Chosen.{Chosen}
 use Rattle.plan.specs.declared.Fate.{Fate}
 use Rattle.plan.specs.declared.Fate.the-variants as F
 use Rattle.plan.specs.declared.Planned.{Planned}
@@ -177,16 +177,16 @@ sized-is set z (e ∷ es) r k = sized-child set z es (λ y. sized-is set y es) (
 -- THE CELLS
 
 -- painting a block's cells, on their meanings
-pub paint-means : (p : Picture) (b : Block) (op : Op) (cells : List ℕ) → leb (pixelCount p) (length cells) ≡ true → Cells.nameable op ≡ true
+pub paint-means : (p : Chosen) (b : Block) (op : Op) (cells : List ℕ) → leb (pixelCount p) (length cells) ≡ true → Cells.nameable op ≡ true
     → Cells.meanings (paintedBlock p b op cells) ≡ paintedUnder p b op (Cells.meanings cells)
 paint-means p b op cells h n =
     painted-meanings (p .width) (p .height) (rectangleOf (b .x) (b .y) (p .width) (p .height)) op cells
     (unfold paintable in and-both (pictureReady (p .width) (p .height) (rectangleOf (b .x) (b .y) (p .width) (p .height)) (length cells)) (Cells.nameable op) (rectangle-ready (b .x) (b .y) (p .width) (p .height) (length cells) ∙ h) n)
 
-pub paint-length : (p : Picture) (b : Block) (op : Op) (cells : List ℕ) → length (paintedBlock p b op cells) ≡ length cells
+pub paint-length : (p : Chosen) (b : Block) (op : Op) (cells : List ℕ) → length (paintedBlock p b op cells) ≡ length cells
 paint-length p b op cells = painted-cells-length (p .width) (p .height) (rectangleOf (b .x) (b .y) (p .width) (p .height)) op cells
 
-pub marked-length : (p : Picture) (cells : List ℕ) (es : List Planned) → length (markedAll p cells es) ≡ length cells
+pub marked-length : (p : Chosen) (cells : List ℕ) (es : List Planned) → length (markedAll p cells es) ≡ length cells
 unfolding markedAll
 marked-length p cells [] = refl
 marked-length p cells (e ∷ es) = marked-length p (markedBy p cells (e .block) (e .fate)) es ∙ go (e .block) (e .fate)
@@ -198,7 +198,7 @@ marked-length p cells (e ∷ es) = marked-length p (markedBy p cells (e .block) 
     go b F.GiveUp = refl
 
 -- the marks first, then what follows
-marked-child : (p : Picture) (b : Block) (from new : ℕ) (cells : List ℕ) (es : List Planned) (fs : List (Event Block))
+marked-child : (p : Chosen) (b : Block) (from new : ℕ) (cells : List ℕ) (es : List Planned) (fs : List (Event Block))
     → ((l : List ℕ) → leb (pixelCount p) (length l) ≡ true → cellsAfter p b from new fs (Cells.meanings (markedAll p l es)) ≡ cellsAfter p b from new (marksIn es ++ fs) (Cells.meanings l))
     → (c : Block) (f : Fate) → leb (pixelCount p) (length cells) ≡ true
     → cellsAfter p b from new fs (Cells.meanings (markedAll p (markedBy p cells c f) es)) ≡ cellsAfter p b from new (withMark c f (marksIn es) ++ fs) (Cells.meanings cells)
@@ -210,7 +210,7 @@ marked-child p b from new cells es fs rest c F.Mark h =
     rest (paintedBlock p c O.Mark cells) (rw (paint-length p c O.Mark cells) h)
     ∙ ap (cellsAfter p b from new (marksIn es ++ fs)) (paint-means p c O.Mark cells h refl)
 
-pub marked-is : (p : Picture) (b : Block) (from new : ℕ) (cells : List ℕ) (es : List Planned) (fs : List (Event Block)) → leb (pixelCount p) (length cells) ≡ true
+pub marked-is : (p : Chosen) (b : Block) (from new : ℕ) (cells : List ℕ) (es : List Planned) (fs : List (Event Block)) → leb (pixelCount p) (length cells) ≡ true
     → cellsAfter p b from new fs (Cells.meanings (markedAll p cells es)) ≡ cellsAfter p b from new (marksIn es ++ fs) (Cells.meanings cells)
 unfolding markedAll marksIn
 marked-is p b from new cells [] fs h = refl
@@ -227,61 +227,61 @@ appended-ready len head used set back b f r k h = rw (f, ready-can set b r, k, r
 abbrev pub worldThen : ℕ → Block → World → List (Event Block) → World
 worldThen from b w es = record {
   state = record {
-    picture = w .state .picture;
+    chosen = w .state .chosen;
     taken = w .state .taken;
     queued = w .state .queued + length (queuedBy es);
     len = w .state .len;
     head = w .state .head;
-    used = w .state .used + length (Queue.queueCodes (w .state .picture .set) (w .state .back) (queuedBy es));
+    used = w .state .used + length (Queue.queueCodes (w .state .chosen .set) (w .state .back) (queuedBy es));
     front = w .state .front;
     back = Queue.memory (w .state .back) (queuedBy es);
   };
-  ring = storedBehind (w .ring) (w .state .head) (w .state .used) (Queue.queueCodes (w .state .picture .set) (w .state .back) (queuedBy es));
-  cells = Cells.codes (cellsAfter (w .state .picture) b from (w .state .queued) es (Cells.meanings (w .cells)));
+  ring = storedBehind (w .ring) (w .state .head) (w .state .used) (Queue.queueCodes (w .state .chosen .set) (w .state .back) (queuedBy es));
+  cells = Cells.codes (cellsAfter (w .state .chosen) b from (w .state .queued) es (Cells.meanings (w .cells)));
 }
 
 -- what carrying out needs: room for these blocks, and numbers
 pub record Roomy (w : World) (q : List Block) : Type 0 where
   pub head-in : w .state .head < length (w .ring)
-  pub room : w .state .used + length (Queue.queueCodes (w .state .picture .set) (w .state .back) q) ≤ length (w .ring)
+  pub room : w .state .used + length (Queue.queueCodes (w .state .chosen .set) (w .state .back) q) ≤ length (w .ring)
   pub numbers : w .state .queued + length q ≤ 2 ^ 32
-  pub cells-enough : leb (pixelCount (w .state .picture)) (length (w .cells)) ≡ true
+  pub cells-enough : leb (pixelCount (w .state .chosen)) (length (w .cells)) ≡ true
   pub known : indicesKnown (w .state .back) ≡ true
-  pub ready : AllReady (w .state .picture .set) q
+  pub ready : AllReady (w .state .chosen .set) q
 
 -- a child queued
 abbrev queuedOne : ℕ → Block → World → World
 queuedOne from b w =
-    let code = encode (w .state .picture .set) (w .state .back) b in
+    let code = encode (w .state .chosen .set) (w .state .back) b in
     worldOf (numbered (w .state) (remembered b) (w .state .used + length code)) (storedBehind (w .ring) (w .state .head) (w .state .used) code)
-    (paintedBlock (w .state .picture) b (O.Name from (w .state .queued)) (w .cells))
+    (paintedBlock (w .state .chosen) b (O.Name from (w .state .queued)) (w .cells))
 
 queued-one : (from : ℕ) (b : Block) (w : World) (q : List Block) → Roomy w (b ∷ q) → withQueued from b w ≡ queuedOne from b w
 unfolding withQueued appendedRing Queue.queueCodes
 queued-one from b w q r =
     let s = w .state in
-    let code = encode (s .picture .set) (s .back) b in
-    let rest = Queue.queueCodes (s .picture .set) (remembered b) q in
+    let code = encode (s .chosen .set) (s .back) b in
+    let rest = Queue.queueCodes (s .chosen .set) (remembered b) q in
     let l : length (code ++ rest) ≡ length code + length rest = length-append code rest in
-    let a = appended-ready (length (w .ring)) (s .head) (s .used) (s .picture .set) (s .back) b
+    let a = appended-ready (length (w .ring)) (s .head) (s .used) (s .chosen .set) (s .back) b
     (and-both (ltb (s .head) (length (w .ring))) (leb (s .used) (length (w .ring))) (lt-ltb (s .head) (length (w .ring)) (r .head-in)) (le-leb (s .used) (length (w .ring)) (omega (arith, r .room))))
     (r .ready .0) (r .known) (omega (arith, r .room)) in
-    rw (a, ready-settled (s .picture .set) b (r .ready .0))
+    rw (a, ready-settled (s .chosen .set) b (r .ready .0))
 
 roomy-next : (from : ℕ) (b : Block) (w : World) (q : List Block) → Roomy w (b ∷ q) → Roomy (queuedOne from b w) q
 unfolding Queue.queueCodes
 roomy-next from b w q r =
     let s = w .state in
-    let code = encode (s .picture .set) (s .back) b in
-    let rest = Queue.queueCodes (s .picture .set) (remembered b) q in
+    let code = encode (s .chosen .set) (s .back) b in
+    let rest = Queue.queueCodes (s .chosen .set) (remembered b) q in
     let l : length (code ++ rest) ≡ length code + length rest = length-append code rest in
     let same = length-stored code (w .ring) (wrapped (length (w .ring)) (s .head + s .used)) in
     record {
       head-in = omega (arith, r .head-in);
       room = omega (arith, r .room);
       numbers = omega (arith, r .numbers);
-      cells-enough = rw (paint-length (s .picture) b (O.Name from (s .queued)) (w .cells)) (r .cells-enough);
-      known = ready-known (s .picture .set) b (r .ready .0);
+      cells-enough = rw (paint-length (s .chosen) b (O.Name from (s .queued)) (w .cells)) (r .cells-enough);
+      known = ready-known (s .chosen .set) b (r .ready .0);
       ready = r .ready .1;
     }
 
@@ -290,21 +290,21 @@ unfolding cellsAfter Queue.queueCodes Queue.memory queuedBy
 then-next from b c w es r =
     let s = w .state in
     let q = queuedBy es in
-    let code = encode (s .picture .set) (s .back) c in
-    let rest = Queue.queueCodes (s .picture .set) (remembered c) q in
+    let code = encode (s .chosen .set) (s .back) c in
+    let rest = Queue.queueCodes (s .chosen .set) (remembered c) q in
     let l : length (code ++ rest) ≡ length code + length rest = length-append code rest in
     let n : s .queued + 1 + length q ≡ s .queued + suc (length q) = omega arith in
     let u : s .used + length code + length rest ≡ s .used + length (code ++ rest) = omega arith in
     let v : s .queued + 1 ≡ suc (s .queued) = omega arith in
     let h = r .numbers in
     let t = store-append code rest (w .ring) (s .head) (s .used) (r .head-in) (omega (arith, r .room)) in
-    let m = paint-means (s .picture) c (O.Name from (s .queued)) (w .cells) (r .cells-enough) (unfold Cells.nameable in lt-ltb (s .queued) 4294967296 (omega arith)) in
+    let m = paint-means (s .chosen) c (O.Name from (s .queued)) (w .cells) (r .cells-enough) (unfold Cells.nameable in lt-ltb (s .queued) 4294967296 (omega arith)) in
     rw (n, u, t, m, v)
 
-then-give-up : (from : ℕ) (b : Block) (w : World) (es : List (Event Block)) → leb (pixelCount (w .state .picture)) (length (w .cells)) ≡ true
-    → worldThen from b (worldOf (w .state) (w .ring) (paintedBlock (w .state .picture) b O.GiveUp (w .cells))) es ≡ worldThen from b w (givesUp ∷ es)
+then-give-up : (from : ℕ) (b : Block) (w : World) (es : List (Event Block)) → leb (pixelCount (w .state .chosen)) (length (w .cells)) ≡ true
+    → worldThen from b (worldOf (w .state) (w .ring) (paintedBlock (w .state .chosen) b O.GiveUp (w .cells))) es ≡ worldThen from b w (givesUp ∷ es)
 unfolding cellsAfter queuedBy Cells.nameable
-then-give-up from b w es h = rw (paint-means (w .state .picture) b O.GiveUp (w .cells) h refl)
+then-give-up from b w es h = rw (paint-means (w .state .chosen) b O.GiveUp (w .cells) h refl)
 
 carried-child : (from : ℕ) (b : Block) (w : World) (es : List Planned) → ((v : World) → Roomy v (queuedIn es) → carriedAll from b v es ≡ worldThen from b v (turnsIn es))
     → (c : Block) (f : Fate) → Roomy w (queuedBy (withTurn c f (turnsIn es))) → carriedAll from b (carriedBy from b w c f) es ≡ worldThen from b w (withTurn c f (turnsIn es))
@@ -316,8 +316,8 @@ carried-child from b w es rest c F.Queue r =
     ∙ rest (queuedOne from c w) (roomy-next from c w (queuedIn es) r)
     ∙ then-next from b c w (turnsIn es) r
 carried-child from b w es rest c F.GiveUp r =
-    rest (worldOf (w .state) (w .ring) (paintedBlock (w .state .picture) b O.GiveUp (w .cells)))
-    (record { head-in = r .head-in; room = r .room; numbers = r .numbers; cells-enough = rw (paint-length (w .state .picture) b O.GiveUp (w .cells)) (r .cells-enough); known = r .known; ready = r .ready })
+    rest (worldOf (w .state) (w .ring) (paintedBlock (w .state .chosen) b O.GiveUp (w .cells)))
+    (record { head-in = r .head-in; room = r .room; numbers = r .numbers; cells-enough = rw (paint-length (w .state .chosen) b O.GiveUp (w .cells)) (r .cells-enough); known = r .known; ready = r .ready })
     ∙ then-give-up from b w (turnsIn es) (r .cells-enough)
 
 pub carried-is : (from : ℕ) (b : Block) (w : World) (es : List Planned) → Roomy w (queuedIn es) → carriedAll from b w es ≡ worldThen from b w (turnsIn es)
@@ -331,25 +331,25 @@ carried-is from b w (e ∷ es) r = carried-child from b w es (λ v. carried-is f
 abbrev pub leftBy : World → Front → List (Event Block) → World
 leftBy w f es = record {
   state = record {
-    picture = w .state .picture;
+    chosen = w .state .chosen;
     taken = w .state .taken + 1;
     queued = w .state .queued + length (queuedBy es);
     len = w .state .len;
     head = f .head;
-    used = f .used + length (Queue.queueCodes (w .state .picture .set) (putLast (w .state .back)) (queuedBy es));
+    used = f .used + length (Queue.queueCodes (w .state .chosen .set) (putLast (w .state .back)) (queuedBy es));
     front = f .last;
     back = Queue.memory (putLast (w .state .back)) (queuedBy es);
   };
-  ring = storedBehind (w .ring) (f .head) (f .used) (Queue.queueCodes (w .state .picture .set) (putLast (w .state .back)) (queuedBy es));
-  cells = Cells.codes (cellsAfter (w .state .picture) (f .block) (w .state .taken) (w .state .queued) es (Cells.meanings (w .cells)));
+  ring = storedBehind (w .ring) (f .head) (f .used) (Queue.queueCodes (w .state .chosen .set) (putLast (w .state .back)) (queuedBy es));
+  cells = Cells.codes (cellsAfter (w .state .chosen) (f .block) (w .state .taken) (w .state .queued) es (Cells.meanings (w .cells)));
 }
 
-pub committed-is : (w : World) (f : Front) (es : List Planned) → leb (pixelCount (w .state .picture)) (length (w .cells)) ≡ true
+pub committed-is : (w : World) (f : Front) (es : List Planned) → leb (pixelCount (w .state .chosen)) (length (w .cells)) ≡ true
     → Roomy (worldOf (takenState (w .state) f) (w .ring) (w .cells)) (queuedIn es) → committed w f es ≡ leftBy w f (marksIn es ++ turnsIn es)
 unfolding committed
 committed-is w f es h r =
     let s = w .state in
-    let cells = markedAll (s .picture) (w .cells) es in
+    let cells = markedAll (s .chosen) (w .cells) es in
     carried-is (s .taken) (f .block) (worldOf (takenState s f) (w .ring) cells) es
-    (record { head-in = r .head-in; room = r .room; numbers = r .numbers; cells-enough = rw (marked-length (s .picture) (w .cells) es) h; known = r .known; ready = r .ready })
-    ∙ rw (marked-is (s .picture) (f .block) (s .taken) (s .queued) (w .cells) es (turnsIn es) h, queued-behind-marks es (turnsIn es))
+    (record { head-in = r .head-in; room = r .room; numbers = r .numbers; cells-enough = rw (marked-length (s .chosen) (w .cells) es) h; known = r .known; ready = r .ready })
+    ∙ rw (marked-is (s .chosen) (f .block) (s .taken) (s .queued) (w .cells) es (turnsIn es) h, queued-behind-marks es (turnsIn es))

@@ -29,13 +29,13 @@ use Rattle.queue.specs.Queue.{codable, measured, appended, appendedRing}
 use Rattle.queue.proofs.QueueAnswers.{denied, granted, codable-both}
 use Rattle.queue.proofs.QueueableLaws.{encode-few}
 use Rattle.queue.specs.Block.{settled}
-use Rattle.decide.specs.declared.Picture.{Picture}
+use Rattle.decide.specs.declared.Chosen.{Chosen}
 use Rattle.decide.specs.declared.children.Children.{Children}
 use Rattle.plan.specs.declared.Fate.{Fate}
 use Rattle.plan.specs.declared.Fate.the-variants as F
 use Rattle.plan.specs.declared.Plan.{Plan}
 use Rattle.plan.specs.declared.Planned.{Planned}
-use Rattle.decide.specs.Damage.{legalPicture, undamaged, cellDamaged, damageSeen}
+use Rattle.decide.specs.Damage.{legalChosen, undamaged, cellDamaged, damageSeen}
 use Rattle.decide.specs.Children.{childrenOf, listed}
 use Rattle.plan.proofs.ChildLaws.{some-child}
 use Rattle.implicit.specs.declared.state.State.{State}
@@ -55,10 +55,10 @@ use Rattle.implicit.specs.ByChild.{openedAs, opening, blockCheck, withCo
 -- THE LISTING
 
 -- of a legal picture, a block that is not damaged has a child, and a damaged one has none
-child-undamaged : (p : Picture) (b : Block) (n : ℕ) → legalPicture p ≡ true → n ≡ length (childrenOf p b) → ltb 0 n ≡ undamaged p b
+child-undamaged : (p : Chosen) (b : Block) (n : ℕ) → legalChosen p ≡ true → n ≡ length (childrenOf p b) → ltb 0 n ≡ undamaged p b
 child-undamaged p b n h e = ap (λ (k : ℕ). ltb 0 k) e ∙ some-child p b ∙ rw h
 
-module _ (p : Picture) (b : Block) (k : Children) (h : legalPicture p ≡ true) (e : k ≡ listed b (childrenOf p b)) where
+module _ (p : Chosen) (b : Block) (k : Children) (h : legalChosen p ≡ true) (e : k ≡ listed b (childrenOf p b)) where
   by-count : ltb 0 (k .count) ≡ undamaged p b
   by-count = child-undamaged p b (k .count) h (ap (λ (c : Children). c .count) e)
 
@@ -85,14 +85,14 @@ module _ (s : State) (ring : List ℕ) (t : Bool) (is-t : t ≡ soundRecord (len
 
 -- THE FRONT BLOCK
 
-module _ (s : State) (ring : List ℕ) (cells n : ℕ) (is-n : n ≡ pixelCount (s .picture)) where
+module _ (s : State) (ring : List ℕ) (cells n : ℕ) (is-n : n ≡ pixelCount (s .chosen)) where
   pub open-few : cells < n → P.Refused R.Cells ≡ opening s ring cells
   unfolding opening
-  open-few k = let l : cells < pixelCount (s .picture) = rw is-n at k in rw (lt-leb (pixelCount (s .picture)) cells l)
+  open-few k = let l : cells < pixelCount (s .chosen) = rw is-n at k in rw (lt-leb (pixelCount (s .chosen)) cells l)
 
   module _ (k : n ≤ cells) where
-    enough : leb (pixelCount (s .picture)) cells ≡ true
-    enough = let l : pixelCount (s .picture) ≤ cells = rw is-n at k in le-leb (pixelCount (s .picture)) cells l
+    enough : leb (pixelCount (s .chosen)) cells ≡ true
+    enough = let l : pixelCount (s .chosen) ≤ cells = rw is-n at k in le-leb (pixelCount (s .chosen)) cells l
 
     pub open-empty : s .queued ≤ s .taken → P.Refused R.Empty ≡ opening s ring cells
     unfolding opening
@@ -112,12 +112,12 @@ and-true : (a : Bool) → a && true ≡ a
 and-true true = refl
 and-true false = refl
 
-seen-damage : (p : Picture) (b : Block) (cells : List ℕ) → leb (pixelCount p) (length cells) ≡ true → damageSeen p b cells ≡ seenIf (cellDamaged p b (meanings cells))
+seen-damage : (p : Chosen) (b : Block) (cells : List ℕ) → leb (pixelCount p) (length cells) ≡ true → damageSeen p b cells ≡ seenIf (cellDamaged p b (meanings cells))
 unfolding someSeen cellDamaged ofKind
 seen-damage p b cells h = let r = rectangle-ready (b .x) (b .y) (p .width) (p .height) (length cells) ∙ h in rw r
 
 -- where the answer is known
-module _ (p : Picture) (b : Block) (cells : List ℕ) (h : leb (pixelCount p) (length cells) ≡ true) (v : Seen) (e : v ≡ damageSeen p b cells) where
+module _ (p : Chosen) (b : Block) (cells : List ℕ) (h : leb (pixelCount p) (length cells) ≡ true) (v : Seen) (e : v ≡ damageSeen p b cells) where
   told : v ≡ seenIf (cellDamaged p b (meanings cells))
   told = e ∙ seen-damage p b cells h
 
@@ -126,7 +126,7 @@ module _ (p : Picture) (b : Block) (cells : List ℕ) (h : leb (pixelCount p) (l
       cases (cellDamaged p b (meanings cells)) (λ d. rw d (sym (and-false (undamaged p b))))
       (λ d. (let j : S.Yes ≡ seenIf false = sym k ∙ told ∙ ap seenIf d in let z : _≡_ {A = ℕ} 0 1 = cc in absurd (omega arith)))
 
-  pub fine-as : v ≡ S.No → (n : ℕ) → legalPicture p ≡ true → n ≡ length (childrenOf p b) → ltb 0 n ≡ blockFine p cells b
+  pub fine-as : v ≡ S.No → (n : ℕ) → legalChosen p ≡ true → n ≡ length (childrenOf p b) → ltb 0 n ≡ blockFine p cells b
   fine-as k n l f =
       cases (cellDamaged p b (meanings cells)) (λ d. (let j : S.No ≡ seenIf true = sym k ∙ told ∙ ap seenIf d in let z : _≡_ {A = ℕ} 0 1 = cc in absurd (omega arith)))
       (λ d. rw d (child-undamaged p b n l f ∙ sym (and-true (undamaged p b))))
@@ -136,7 +136,7 @@ module _ (p : Picture) (b : Block) (cells : List ℕ) (h : leb (pixelCount p) (l
       cases (cellDamaged p b (meanings cells)) (λ d. (let j : S.Outside ≡ seenIf true = sym k ∙ told ∙ ap seenIf d in let z : _≡_ {A = ℕ} 0 1 = cc in absurd (omega arith)))
       (λ d. (let j : S.Outside ≡ seenIf false = sym k ∙ told ∙ ap seenIf d in let z : _≡_ {A = ℕ} 0 1 = cc in absurd (omega arith)))
 
-module _ (p : Picture) (b : Block) (cells : List ℕ) (children verdicts : ℕ) (tape t : Bool) (is-t : t ≡ blockFine p cells b) where
+module _ (p : Chosen) (b : Block) (cells : List ℕ) (children verdicts : ℕ) (tape t : Bool) (is-t : t ≡ blockFine p cells b) where
   pub check-damaged : not t ≡ true → C.Refused R.Damaged ≡ blockCheck p b cells children verdicts tape
   unfolding blockCheck
   check-damaged h = let u : blockFine p cells b ≡ false = sym is-t ∙ denied t h in sym (cond-no (blockFine p cells b) _ _ u)
@@ -193,14 +193,14 @@ module _ (s : State) (len used : ℕ) (p : Plan) where
 
     module _ (k : s .queued + p .queued ≤ 4294967296) (fits : used ≤ len) where
       abbrev size : ℕ
-      size = sizeOf (s .picture .set) (putLast (s .back)) (p .at)
+      size = sizeOf (s .chosen .set) (putLast (s .back)) (p .at)
 
       has-room : used + size ≤ len → C.Passed ≡ planCheck s len used p
       unfolding planCheck
       has-room m = rw (granted (p .legal) h, le-leb (s .queued + p .queued) (2 ^ 32) k, le-leb (used + size) len m)
 
       pub plan-roomy : length (p .at) ≡ 4 → 332 ≤ len - used → C.Passed ≡ planCheck s len used p
-      plan-roomy n l = has-room (omega (arith, sized-few (s .picture .set) (record { total = 0; last = putLast (s .back) }) (p .at)))
+      plan-roomy n l = has-room (omega (arith, sized-few (s .chosen .set) (record { total = 0; last = putLast (s .back) }) (p .at)))
 
       module _ (n : ℕ) (is-n : n ≡ size) where
         pub plan-full : len - used < n → C.Refused R.Room ≡ planCheck s len used p
@@ -227,11 +227,11 @@ module _ (at : List Planned) (i : ℕ) where
   unfolding sizedAll
   sized-end set z h = rw (done h)
 
-  pub marked-on : (p : Picture) (cells r : List ℕ) (d : Planned) → i < length at → r ≡ markedBy p cells (getD at i d .block) (getD at i d .fate) → markedAll p r (drop (i + 1) at) ≡ markedAll p cells (drop i at)
+  pub marked-on : (p : Chosen) (cells r : List ℕ) (d : Planned) → i < length at → r ≡ markedBy p cells (getD at i d .block) (getD at i d .fate) → markedAll p r (drop (i + 1) at) ≡ markedAll p cells (drop i at)
   unfolding markedAll
   marked-on p cells r d h e = rw (here h d, e)
 
-  pub marked-end : (p : Picture) (cells : List ℕ) → length at ≤ i → markedAll p cells (drop i at) ≡ cells
+  pub marked-end : (p : Chosen) (cells : List ℕ) → length at ≤ i → markedAll p cells (drop i at) ≡ cells
   unfolding markedAll
   marked-end p cells h = rw (done h)
 
@@ -244,13 +244,13 @@ module _ (at : List Planned) (i : ℕ) where
   carried-end from b w h = rw (done h)
 
 -- a child queued, by what the queue answers
-module _ (from : ℕ) (b : Block) (s : State) (ring cells ring′ : List ℕ) (a : Appended) (is-a : a ≡ appended (length ring) (s .head) (s .used) (s .picture .set) (s .back) b)
-    (is-ring : ring′ ≡ appendedRing ring (s .head) (s .used) (s .picture .set) (s .back) b) where
+module _ (from : ℕ) (b : Block) (s : State) (ring cells ring′ : List ℕ) (a : Appended) (is-a : a ≡ appended (length ring) (s .head) (s .used) (s .chosen .set) (s .back) b)
+    (is-ring : ring′ ≡ appendedRing ring (s .head) (s .used) (s .chosen .set) (s .back) b) where
   pub queued-by : (v : Appended) → a ≡ v → queuedAs from b (worldOf s ring cells) ring′ v ≡ withQueued from b (worldOf s ring cells)
   unfolding withQueued
   queued-by v e = rw (is-ring, sym e ∙ is-a)
 
-  pub queued-done : (last : Last) (used : ℕ) (cells′ : List ℕ) → a ≡ A.Done last used → cells′ ≡ paintedBlock (s .picture) b (O.Name from (s .queued)) cells
+  pub queued-done : (last : Last) (used : ℕ) (cells′ : List ℕ) → a ≡ A.Done last used → cells′ ≡ paintedBlock (s .chosen) b (O.Name from (s .queued)) cells
       → worldOf (numbered s last used) ring′ cells′ ≡ withQueued from b (worldOf s ring cells)
   queued-done last used cells′ e g = rw g (queued-by (A.Done last used) e)
 
@@ -263,7 +263,7 @@ carried-more s n (K.Queued last used) e = rw e (omega arith)
 carried-more s n K.Nothing e = rw e (omega arith)
 
 -- the marks, the record with the front block taken, and the rest
-pub committed-by : (s : State) (ring cells : List ℕ) (f : Front) (es : List Planned) (marked : List ℕ) (t r : State) (ring′ cells′ : List ℕ) → marked ≡ markedAll (s .picture) cells es → t ≡ takenState s f
+pub committed-by : (s : State) (ring cells : List ℕ) (f : Front) (es : List Planned) (marked : List ℕ) (t r : State) (ring′ cells′ : List ℕ) → marked ≡ markedAll (s .chosen) cells es → t ≡ takenState s f
     → worldOf r ring′ cells′ ≡ carriedAll (s .taken) (f .block) (worldOf t ring marked) es → worldOf r ring′ cells′ ≡ committed (worldOf s ring cells) f es
 unfolding committed
 committed-by s ring cells f es marked t r ring′ cells′ e g h = h ∙ rw (e, g)

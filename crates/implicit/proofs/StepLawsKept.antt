@@ -30,7 +30,7 @@ use Rattle.queue.specs.Code.{canQueue, indicesKnown}
 use Rattle.queue.specs.Decode.{boundsOf, boundsRead, usedRead, parameterRead, withRead, addParameter, addParameters, addDirection, placeRead, decode}
 use Rattle.queue.proofs.RoundTrip.{ParameterFine, CanQueue}
 use Rattle.queue.proofs.KeptLaws.{known-after, known-test, can-test, settled-is, line-fine}
-use Rattle.decide.specs.declared.Picture.{Picture}
+use Rattle.decide.specs.declared.Chosen.{Chosen}
 use Rattle.decide.specs.Damage.{sound}
 use Rattle.decide.proofs.DamageLaws.{LegalParameters, is-sound}
 use Rattle.plan.proofs.ChildLaws.{Fine}
@@ -185,7 +185,7 @@ fine-part : (used integer : Bool) (p : Interval) → legalInterval p integer ≡
 fine-part true integer p l k f = record { proper = λ e. record { legal = l; put = k; format = f }; line = λ e. absurd (true≢false e) }
 fine-part false integer p l k f = record { proper = λ e. absurd (false≢true e); line = λ e. sym k }
 
-pub block-fine : (p : Picture) (b : Block) → sound p b ≡ true → Kept (p .set) b → Formats b → Fine (p .set) b
+pub block-fine : (p : Chosen) (b : Block) → sound p b ≡ true → Kept (p .set) b → Formats b → Fine (p .set) b
 block-fine p b ok k f d = go d
   where
     l : LegalParameters b

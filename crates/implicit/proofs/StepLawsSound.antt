@@ -44,7 +44,7 @@ module _ (tape : Bool) (w : World) (vs : List ℕ) (left : World) (e n : ℕ) (g
   begun : Begun (w .state) (w .ring) (w .cells) front
   begun = record {
     sound-record = g .sound-record;
-    cells-enough = le-leb (pixelCount (w .state .picture)) (length (w .cells)) (g .cells-enough);
+    cells-enough = le-leb (pixelCount (w .state .chosen)) (length (w .cells)) (g .cells-enough);
     not-empty = g .not-empty;
     front-read = g .front-read;
   }
@@ -52,14 +52,14 @@ module _ (tape : Bool) (w : World) (vs : List ℕ) (left : World) (e n : ℕ) (g
   last-is : soundLast (g .last) ≡ true
   last-is =
       rw (front-known (w .state) (w .ring) (w .cells) front begun .remembers)
-      (remembered-sound (w .state .picture) (g .block) (and-left (undamaged (w .state .picture) (g .block)) _ (g .undamaged-block)))
+      (remembered-sound (w .state .chosen) (g .block) (and-left (undamaged (w .state .chosen) (g .block)) _ (g .undamaged-block)))
 
   module _ (held : LastHeld (w .state .front)) where
     back-is : soundLast (memory (putLast (w .state .back)) (newBlocks w (g .block) (g .own))) ≡ true
     back-is =
         let r = front-known (w .state) (w .ring) (w .cells) front begun in
-        let f = read-held (w .state .picture .set) (w .state .front) (content (w .ring) (w .state .head) (w .state .used)) (g .block) (r .size) (r .decodes) held in
-        memory-sound (w .state .picture .set) (putLast (w .state .back)) (newBlocks w (g .block) (g .own))
+        let f = read-held (w .state .chosen .set) (w .state .front) (content (w .ring) (w .state .head) (w .state .used)) (g .block) (r .size) (r .decodes) held in
+        memory-sound (w .state .chosen .set) (putLast (w .state .back)) (newBlocks w (g .block) (g .own))
         (put-last-sound (w .state .back) ∙ last-sound (w .state .back) (sound-record (length (w .ring)) (w .state) (g .sound-record) .back))
         (new-ready (w .state) (w .ring) (w .cells) front begun (g .undamaged-block) f (g .own))
 
@@ -68,7 +68,7 @@ module _ (tape : Bool) (w : World) (vs : List ℕ) (left : World) (e n : ℕ) (g
     went-sound u =
         let s = sound-record (length (w .ring)) (w .state) (g .sound-record) in
         record-sound (length (w .ring)) _ (record {
-          picture = s .picture;
+          chosen = s .chosen;
           order = omega (arith, ltb-true (w .state .taken) (w .state .queued) (g .not-empty));
           numbers = g .numbers;
           ring = s .ring;

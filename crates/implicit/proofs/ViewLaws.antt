@@ -24,7 +24,7 @@ use Rattle.image.specs.Painting.{pixelCell, someOf, tallyAnswer, drawnBytes}
 use Rattle.image.proofs.RangeLaws.{cell-below}
 use Rattle.image.proofs.CountLaws.{tally-answered}
 use Rattle.image.proofs.DrawLaws.{drawn-all}
-use Rattle.decide.specs.declared.Picture.{Picture}
+use Rattle.decide.specs.declared.Chosen.{Chosen}
 use Rattle.implicit.specs.declared.state.State.{State}
 use Rattle.implicit.specs.declared.state.Counts.{Counts}
 use Rattle.implicit.specs.declared.state.Counted.{Counted}
@@ -33,7 +33,7 @@ use Rattle.implicit.specs.declared.state.Drawn.{Drawn}
 use Rattle.implicit.specs.declared.state.Drawn.the-variants as D
 use Rattle.implicit.specs.Record.{pixelCount, pixelCells, soundRecord}
 use Rattle.implicit.specs.View.{cellsFine, pictureBytes, pictureLeft, shareOf, pictureAnswer, countsFrom, countsOf, countsAnswer}
-use Rattle.implicit.proofs.RecordLaws.{sound-picture, pixels-some, pixels-most, pixel-cells, pixel-cells-length, pixel-cell-at, whole-ready}
+use Rattle.implicit.proofs.RecordLaws.{sound-chosen, pixels-some, pixels-most, pixel-cells, pixel-cells-length, pixel-cell-at, whole-ready}
 
 -- DAMAGED CELLS
 
@@ -49,10 +49,10 @@ take-meanings (suc k) [] = refl
 take-meanings (suc k) (n ∷ l) = ap (λ (r : List Cell). meaningOf n ∷ r) (take-meanings k l)
 
 -- no pixel's cell is damaged exactly if none of the first cells is
-pub fine-as : (s : State) (cells : List ℕ) (n : ℕ) (b : Bool) → n ≡ pixelCount (s .picture) → b ≡ someOf (ofKind K.Damaged) (meanings (take n cells))
+pub fine-as : (s : State) (cells : List ℕ) (n : ℕ) (b : Bool) → n ≡ pixelCount (s .chosen) → b ≡ someOf (ofKind K.Damaged) (meanings (take n cells))
     → not b ≡ cellsFine s cells
 fine-as s cells n b e f =
-    ap not (f ∙ damaged-some (meanings (take n cells)) ∙ ap (someOf isDamaged) (take-meanings n cells ∙ ap (λ (k : ℕ). take k (meanings cells)) e ∙ sym (pixel-cells (s .picture) cells)))
+    ap not (f ∙ damaged-some (meanings (take n cells)) ∙ ap (someOf isDamaged) (take-meanings n cells ∙ ap (λ (k : ℕ). take k (meanings cells)) e ∙ sym (pixel-cells (s .chosen) cells)))
 
 -- THE ANSWERS, BY THE TESTS THAT LEAD THERE
 
@@ -61,31 +61,31 @@ module _ (s : State) (cells : List ℕ) (room : ℕ) where
   unfolding pictureAnswer
   refused-record h = rw h
 
-  pub refused-cells : soundRecord (s .len) s ≡ true → length cells < pixelCount (s .picture) → pictureAnswer s cells room ≡ D.Refused R.Cells
+  pub refused-cells : soundRecord (s .len) s ≡ true → length cells < pixelCount (s .chosen) → pictureAnswer s cells room ≡ D.Refused R.Cells
   unfolding pictureAnswer
-  refused-cells h k = rw (h, lt-leb (pixelCount (s .picture)) (length cells) k)
+  refused-cells h k = rw (h, lt-leb (pixelCount (s .chosen)) (length cells) k)
 
-  pub refused-room : soundRecord (s .len) s ≡ true → pixelCount (s .picture) ≤ length cells → room < pixelCount (s .picture)
+  pub refused-room : soundRecord (s .len) s ≡ true → pixelCount (s .chosen) ≤ length cells → room < pixelCount (s .chosen)
       → pictureAnswer s cells room ≡ D.Refused R.Picture
   unfolding pictureAnswer
-  refused-room h k m = rw (h, le-leb (pixelCount (s .picture)) (length cells) k, lt-leb (pixelCount (s .picture)) room m)
+  refused-room h k m = rw (h, le-leb (pixelCount (s .chosen)) (length cells) k, lt-leb (pixelCount (s .chosen)) room m)
 
-  pub refused-cell : soundRecord (s .len) s ≡ true → pixelCount (s .picture) ≤ length cells → pixelCount (s .picture) ≤ room → cellsFine s cells ≡ false
+  pub refused-cell : soundRecord (s .len) s ≡ true → pixelCount (s .chosen) ≤ length cells → pixelCount (s .chosen) ≤ room → cellsFine s cells ≡ false
       → pictureAnswer s cells room ≡ D.Refused R.Damaged
   unfolding pictureAnswer
-  refused-cell h k m f = rw (h, le-leb (pixelCount (s .picture)) (length cells) k, le-leb (pixelCount (s .picture)) room m, f)
+  refused-cell h k m f = rw (h, le-leb (pixelCount (s .chosen)) (length cells) k, le-leb (pixelCount (s .chosen)) room m, f)
 
 -- what a picture that can be drawn has
 pub record Viewable (s : State) (cells : List ℕ) (room : ℕ) : Type 0 where
   pub record-sound : soundRecord (s .len) s ≡ true
-  pub enough : pixelCount (s .picture) ≤ length cells
-  pub room-left : pixelCount (s .picture) ≤ room
+  pub enough : pixelCount (s .chosen) ≤ length cells
+  pub room-left : pixelCount (s .chosen) ≤ room
   pub cells-fine : cellsFine s cells ≡ true
 
 pub viewable-drawn : (s : State) (cells : List ℕ) (room : ℕ) → Viewable s cells room → pictureAnswer s cells room ≡ D.Done
 unfolding pictureAnswer
 viewable-drawn s cells room v =
-    rw (v .record-sound, le-leb (pixelCount (s .picture)) (length cells) (v .enough), le-leb (pixelCount (s .picture)) room (v .room-left), v .cells-fine)
+    rw (v .record-sound, le-leb (pixelCount (s .chosen)) (length cells) (v .enough), le-leb (pixelCount (s .chosen)) room (v .room-left), v .cells-fine)
 
 never : (why : Refusal) {P : Type 0} → D.Refused why ≡ D.Done → P
 never why e = let z : _≡_ {A = ℕ} 0 1 = cc in absurd (omega arith)
@@ -101,7 +101,7 @@ four false b c d e = never R.Damaged e
 pub drawn-viewable : (s : State) (cells : List ℕ) (room : ℕ) → pictureAnswer s cells room ≡ D.Done → Viewable s cells room
 unfolding pictureAnswer
 drawn-viewable s cells room e =
-    let n = pixelCount (s .picture) in
+    let n = pixelCount (s .chosen) in
     let f = four (soundRecord (s .len) s) (leb n (length cells)) (leb n room) (cellsFine s cells) e in
     record { record-sound = f .0; enough = leb-true n (length cells) (f .1); room-left = leb-true n room (f .2); cells-fine = f .3 }
 
@@ -110,12 +110,12 @@ abbrev pub countedIf : Drawn → Counts → Counted
 countedIf D.Done n = C.Of n
 countedIf (D.Refused why) n = C.Refused why
 
-pub counts-as-picture : (s : State) (cells : List ℕ) (room : ℕ) → room ≡ pixelCount (s .picture)
+pub counts-as-picture : (s : State) (cells : List ℕ) (room : ℕ) → room ≡ pixelCount (s .chosen)
     → countedIf (pictureAnswer s cells room) (countsOf s cells) ≡ countsAnswer s cells
 unfolding pictureAnswer countsAnswer
 counts-as-picture s cells room e =
-    rw (le-leb (pixelCount (s .picture)) room (omega arith))
-    (go (soundRecord (s .len) s) (leb (pixelCount (s .picture)) (length cells)) (cellsFine s cells))
+    rw (le-leb (pixelCount (s .chosen)) room (omega arith))
+    (go (soundRecord (s .len) s) (leb (pixelCount (s .chosen)) (length cells)) (cellsFine s cells))
   where
     go : (a b d : Bool)
         → countedIf (cond a (cond b (cond d D.Done (D.Refused R.Damaged)) (D.Refused R.Cells)) (D.Refused R.Damaged)) (countsOf s cells)
@@ -125,33 +125,33 @@ counts-as-picture s cells room e =
     go true false d = refl
     go false b d = refl
 
-pub counts-done : (s : State) (cells : List ℕ) (room : ℕ) → room ≡ pixelCount (s .picture) → pictureAnswer s cells room ≡ D.Done → countsAnswer s cells ≡ C.Of (countsOf s cells)
+pub counts-done : (s : State) (cells : List ℕ) (room : ℕ) → room ≡ pixelCount (s .chosen) → pictureAnswer s cells room ≡ D.Done → countsAnswer s cells ≡ C.Of (countsOf s cells)
 counts-done s cells room e d = sym (counts-as-picture s cells room e) ∙ ap (λ (a : Drawn). countedIf a (countsOf s cells)) d
 
-pub counts-refused : (s : State) (cells : List ℕ) (room : ℕ) (why : Refusal) → room ≡ pixelCount (s .picture) → pictureAnswer s cells room ≡ D.Refused why
+pub counts-refused : (s : State) (cells : List ℕ) (room : ℕ) (why : Refusal) → room ≡ pixelCount (s .chosen) → pictureAnswer s cells room ≡ D.Refused why
     → countsAnswer s cells ≡ C.Refused why
 counts-refused s cells room why e d = sym (counts-as-picture s cells room e) ∙ ap (λ (a : Drawn). countedIf a (countsOf s cells)) d
 
 -- BYTE BY BYTE
 
-bytes-shown : (s : State) (cells : List ℕ) → map (shownByte (s .taken)) (take (pixelCount (s .picture)) cells) ≡ pictureBytes s cells
+bytes-shown : (s : State) (cells : List ℕ) → map (shownByte (s .taken)) (take (pixelCount (s .chosen)) cells) ≡ pictureBytes s cells
 unfolding pictureBytes
 bytes-shown s cells =
-    sym (map-map (λ c. byteOf (reading (s .taken) c)) meaningOf (take (pixelCount (s .picture)) cells))
-    ∙ ap (map (λ c. byteOf (reading (s .taken) c))) (take-meanings (pixelCount (s .picture)) cells ∙ sym (pixel-cells (s .picture) cells))
+    sym (map-map (λ c. byteOf (reading (s .taken) c)) meaningOf (take (pixelCount (s .chosen)) cells))
+    ∙ ap (map (λ c. byteOf (reading (s .taken) c))) (take-meanings (pixelCount (s .chosen)) cells ∙ sym (pixel-cells (s .chosen) cells))
 
 -- the first bytes drawn, and the rest as it was
-pub left-drawn : (s : State) (n : ℕ) (cells out ys : List ℕ) → n ≡ pixelCount (s .picture) → n ≤ length cells → n ≤ length out
+pub left-drawn : (s : State) (n : ℕ) (cells out ys : List ℕ) → n ≡ pixelCount (s .chosen) → n ≤ length cells → n ≤ length out
     → ys ≡ drawnBytes (s .taken) (take n cells) (take n out) → ys ++ drop n out ≡ pictureLeft s cells out
 unfolding pictureLeft
 left-drawn s n cells out ys e h k f =
     let y = f ∙ drawn-all (s .taken) (take n cells) (take n out) (length-take-le n cells h ∙ sym (length-take-le n out k)) in
-    ap (λ (l : List ℕ). l ++ drop n out) y ∙ rw e (ap (λ (l : List ℕ). l ++ drop (pixelCount (s .picture)) out) (bytes-shown s cells))
+    ap (λ (l : List ℕ). l ++ drop n out) y ∙ rw e (ap (λ (l : List ℕ). l ++ drop (pixelCount (s .chosen)) out) (bytes-shown s cells))
 
 -- a byte for each pixel
-pub picture-length : (s : State) (cells : List ℕ) → pixelCount (s .picture) ≤ length cells → length (pictureBytes s cells) ≡ pixelCount (s .picture)
+pub picture-length : (s : State) (cells : List ℕ) → pixelCount (s .chosen) ≤ length cells → length (pictureBytes s cells) ≡ pixelCount (s .chosen)
 unfolding pictureBytes
-picture-length s cells h = L.length-map (pixelCells (s .picture) cells) (λ c. byteOf (reading (s .taken) c)) ∙ pixel-cells-length (s .picture) cells h
+picture-length s cells h = L.length-map (pixelCells (s .chosen) cells) (λ c. byteOf (reading (s .taken) c)) ∙ pixel-cells-length (s .chosen) cells h
 
 map-at : {A : Type 0} (f : A → ℕ) (l : List A) (i : ℕ) (d : A) → i < length l → getD (map f l) i 0 ≡ f (getD l i d)
 map-at f [] i d h = absurd (omega arith)
@@ -159,12 +159,12 @@ map-at f (c ∷ l) zero d h = refl
 map-at f (c ∷ l) (suc i) d h = map-at f l i d (omega arith)
 
 -- and the one of the pixel in column x that is the y-th from the bottom is that of its cell's reading
-pub picture-byte : (s : State) (cells : List ℕ) (x y : ℕ) → pixelCount (s .picture) ≤ length cells → x < s .picture .width → y < s .picture .height
-    → getD (pictureBytes s cells) (cellIndex (s .picture .width) (s .picture .height) x y) 0
-    ≡ byteOf (reading (s .taken) (pixelCell (s .picture .width) (s .picture .height) x y (meanings cells)))
+pub picture-byte : (s : State) (cells : List ℕ) (x y : ℕ) → pixelCount (s .chosen) ≤ length cells → x < s .chosen .width → y < s .chosen .height
+    → getD (pictureBytes s cells) (cellIndex (s .chosen .width) (s .chosen .height) x y) 0
+    ≡ byteOf (reading (s .taken) (pixelCell (s .chosen .width) (s .chosen .height) x y (meanings cells)))
 unfolding pictureBytes
 picture-byte s cells x y h a b =
-    let p = s .picture in
+    let p = s .chosen in
     let i = cellIndex (p .width) (p .height) x y in
     let n = pixel-cells-length p cells h in
     let k = cell-below (p .width) (p .height) x y a b in
@@ -172,20 +172,20 @@ picture-byte s cells x y h a b =
     ∙ ap (λ (c : Cell). byteOf (reading (s .taken) c)) (pixel-cell-at p cells x y a b)
 
 -- the buffer: as long as it was, the picture first, the bytes beyond as they were
-module _ (s : State) (cells out : List ℕ) (enough : pixelCount (s .picture) ≤ length cells) (room : pixelCount (s .picture) ≤ length out) where
+module _ (s : State) (cells out : List ℕ) (enough : pixelCount (s .chosen) ≤ length cells) (room : pixelCount (s .chosen) ≤ length out) where
   pub left-length : length (pictureLeft s cells out) ≡ length out
   unfolding pictureLeft
   left-length =
       let n = picture-length s cells enough in
-      length-append (pictureBytes s cells) (drop (pixelCount (s .picture)) out) ∙ omega (arith, length-drop (pixelCount (s .picture)) out)
+      length-append (pictureBytes s cells) (drop (pixelCount (s .chosen)) out) ∙ omega (arith, length-drop (pixelCount (s .chosen)) out)
 
-  pub left-picture : take (pixelCount (s .picture)) (pictureLeft s cells out) ≡ pictureBytes s cells
+  pub left-picture : take (pixelCount (s .chosen)) (pictureLeft s cells out) ≡ pictureBytes s cells
   unfolding pictureLeft
-  left-picture = take-at (pictureBytes s cells) (drop (pixelCount (s .picture)) out) (pixelCount (s .picture)) (picture-length s cells enough)
+  left-picture = take-at (pictureBytes s cells) (drop (pixelCount (s .chosen)) out) (pixelCount (s .chosen)) (picture-length s cells enough)
 
-  pub left-beyond : drop (pixelCount (s .picture)) (pictureLeft s cells out) ≡ drop (pixelCount (s .picture)) out
+  pub left-beyond : drop (pixelCount (s .chosen)) (pictureLeft s cells out) ≡ drop (pixelCount (s .chosen)) out
   unfolding pictureLeft
-  left-beyond = drop-at (pictureBytes s cells) (drop (pixelCount (s .picture)) out) (pixelCount (s .picture)) (picture-length s cells enough)
+  left-beyond = drop-at (pictureBytes s cells) (drop (pixelCount (s .chosen)) out) (pixelCount (s .chosen)) (picture-length s cells enough)
 
 -- THE COUNTS
 
@@ -214,7 +214,7 @@ unfolding tallied countOf
 given-up-uncertain taken [] = omega arith
 given-up-uncertain taken (c ∷ l) = let h = given-up-uncertain taken l in let k = given-up-reads taken c in omega arith
 
-pub settled-few : (p : Picture) (taken : ℕ) (l : List ℕ) (t : Tally) → pixelCount p ≤ length l → t ≡ tallied taken (pixelCells p l) → t .trues + t .falses ≤ pixelCount p
+pub settled-few : (p : Chosen) (taken : ℕ) (l : List ℕ) (t : Tally) → pixelCount p ≤ length l → t ≡ tallied taken (pixelCells p l) → t .trues + t .falses ≤ pixelCount p
 settled-few p taken l t h e =
     let a = tally-adds taken (pixelCells p l) in
     let n = pixel-cells-length p l h in
@@ -222,40 +222,40 @@ settled-few p taken l t h e =
     omega arith
 
 -- what `image` counts of the whole picture
-module _ (s : State) (cells : List ℕ) (a : TallyAnswer) (enough : pixelCount (s .picture) ≤ length cells)
-    (e : a ≡ tallyAnswer (s .picture .width) (s .picture .height) (wholePicture (s .picture .width) (s .picture .height)) (s .taken) cells) where
-  whole-tallied : a ≡ A.Of (tallied (s .taken) (pixelCells (s .picture) cells))
-  whole-tallied = e ∙ tally-answered (s .picture .width) (s .picture .height) (wholePicture (s .picture .width) (s .picture .height)) (s .taken) cells (whole-ready (s .picture) (length cells) enough)
+module _ (s : State) (cells : List ℕ) (a : TallyAnswer) (enough : pixelCount (s .chosen) ≤ length cells)
+    (e : a ≡ tallyAnswer (s .chosen .width) (s .chosen .height) (wholePicture (s .chosen .width) (s .chosen .height)) (s .taken) cells) where
+  whole-tallied : a ≡ A.Of (tallied (s .taken) (pixelCells (s .chosen) cells))
+  whole-tallied = e ∙ tally-answered (s .chosen .width) (s .chosen .height) (wholePicture (s .chosen .width) (s .chosen .height)) (s .taken) cells (whole-ready (s .chosen) (length cells) enough)
 
-  pub tally-told : (t : Tally) → a ≡ A.Of t → t ≡ tallied (s .taken) (pixelCells (s .picture) cells)
+  pub tally-told : (t : Tally) → a ≡ A.Of t → t ≡ tallied (s .taken) (pixelCells (s .chosen) cells)
   tally-told t f = let g = whole-tallied in cc
 
   pub tally-never-outside : {P : Type 0} → a ≡ A.Outside → P
   tally-never-outside f = let g = whole-tallied in let z : _≡_ {A = ℕ} 0 1 = cc in absurd (omega arith)
 
-pub share-asks : (s : State) (pixels settled : ℕ) → soundRecord (s .len) s ≡ true → pixels ≡ pixelCount (s .picture) → settled ≤ pixelCount (s .picture)
+pub share-asks : (s : State) (pixels settled : ℕ) → soundRecord (s .len) s ≡ true → pixels ≡ pixelCount (s .chosen) → settled ≤ pixelCount (s .chosen)
     → (1 ≤ pixels) × (pixels ≤ 2 ^ 30) × (settled ≤ pixels)
 share-asks s pixels settled h e k =
-    let p = sound-picture (s .len) s h in
-    (omega (arith, pixels-some (s .picture) p), omega (arith, pixels-most (s .picture) p), omega arith)
+    let p = sound-chosen (s .len) s h in
+    (omega (arith, pixels-some (s .chosen) p), omega (arith, pixels-most (s .chosen) p), omega arith)
 
-pub settled-fits : (s : State) (settled : ℕ) → soundRecord (s .len) s ≡ true → settled ≤ pixelCount (s .picture) → settled < 2 ^ 64
-settled-fits s settled h k = omega (arith, pixels-most (s .picture) (sound-picture (s .len) s h))
+pub settled-fits : (s : State) (settled : ℕ) → soundRecord (s .len) s ≡ true → settled ≤ pixelCount (s .chosen) → settled < 2 ^ 64
+settled-fits s settled h k = omega (arith, pixels-most (s .chosen) (sound-chosen (s .len) s h))
 
-pub counts-from-as : (s : State) (t : Tally) (pixels share : ℕ) → pixels ≡ pixelCount (s .picture) → share ≡ shareOf (t .trues + t .falses) pixels
+pub counts-from-as : (s : State) (t : Tally) (pixels share : ℕ) → pixels ≡ pixelCount (s .chosen) → share ≡ shareOf (t .trues + t .falses) pixels
     → record { trues = t .trues; falses = t .falses; uncertain = t .uncertain; givenup = t .givenup; queued = s .queued - s .taken; share = share } ≡ countsFrom s t
 unfolding countsFrom
 counts-from-as s t pixels share e f = rw (f, e)
 
 -- the three readings add up to the pixels, and the given-up cells are among the uncertain ones
-pub counts-add : (s : State) (cells : List ℕ) → pixelCount (s .picture) ≤ length cells
-    → countsOf s cells .trues + countsOf s cells .falses + countsOf s cells .uncertain ≡ pixelCount (s .picture)
+pub counts-add : (s : State) (cells : List ℕ) → pixelCount (s .chosen) ≤ length cells
+    → countsOf s cells .trues + countsOf s cells .falses + countsOf s cells .uncertain ≡ pixelCount (s .chosen)
 unfolding countsFrom
-counts-add s cells h = tally-adds (s .taken) (pixelCells (s .picture) cells) ∙ pixel-cells-length (s .picture) cells h
+counts-add s cells h = tally-adds (s .taken) (pixelCells (s .chosen) cells) ∙ pixel-cells-length (s .chosen) cells h
 
 pub counts-given-up : (s : State) (cells : List ℕ) → countsOf s cells .givenup ≤ countsOf s cells .uncertain
 unfolding countsFrom
-counts-given-up s cells = given-up-uncertain (s .taken) (pixelCells (s .picture) cells)
+counts-given-up s cells = given-up-uncertain (s .taken) (pixelCells (s .chosen) cells)
 
 -- to the nearest thousandth, half up: the share less a half is at most 1000 * settled / pixels, which is under the share and a half
 pub share-nearest : (settled pixels : ℕ) → 1 ≤ pixels

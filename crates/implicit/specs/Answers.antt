@@ -1,5 +1,5 @@
 -- The answers of the entries that are enums: document 01's number of each case, 0 where the call was done and else that of its refusal, and its values.
--- A refused step or run hands back the record it was given. Any other value that a refused call does not have is blank: 0, counts of 0, no word, or the record of no picture.
+-- A refused step, run or move hands back the record it was given. Any other value that a refused call does not have is blank: 0, counts of 0, no word, or the record of no picture.
 use mathlib.Core.List.{List, [], _∷_}
 use Prim.Native.Nat.{ℕ}
 use Rattle.refusal.specs.Number.{number}
@@ -10,6 +10,8 @@ use Rattle.implicit.specs.declared.state.Started.{Started}
 use Rattle.implicit.specs.declared.state.Started.the-variants as S
 use Rattle.implicit.specs.declared.state.Needed.{Needed}
 use Rattle.implicit.specs.declared.state.Needed.the-variants as M
+use Rattle.implicit.specs.declared.state.Moved.{Moved}
+use Rattle.implicit.specs.declared.state.Moved.the-variants as Q
 use Rattle.implicit.specs.declared.state.Listed.{Listed}
 use Rattle.implicit.specs.declared.state.Stepped.{Stepped}
 use Rattle.implicit.specs.declared.state.Stepped.the-variants as T
@@ -21,11 +23,10 @@ use Rattle.implicit.specs.declared.state.Drawn.{Drawn}
 use Rattle.implicit.specs.declared.state.Drawn.the-variants as D
 use Rattle.implicit.specs.declared.state.Counted.{Counted}
 use Rattle.implicit.specs.declared.state.Counted.the-variants as C
-use Rattle.implicit.specs.Setup.{pictureOf}
 
 -- SETUP: its number, and the record that it leaves. A refused setup leaves the blank one: its picture has sides of 0, so that every call on it is refused
 abbrev pub blankState : State
-blankState = record { picture = pictureOf 0 0 0; taken = 0; queued = 0; len = 0; head = 0; used = 0; front = startingLast; back = startingLast }
+blankState = record { chosen = record { width = 0; height = 0; set = 0; reserved1 = 0; reserved2 = 0; reserved3 = 0 }; taken = 0; queued = 0; len = 0; head = 0; used = 0; front = startingLast; back = startingLast }
 
 abbrev pub setupNumber : Started → ℕ
 setupNumber (S.Ready s) = 0
@@ -35,7 +36,7 @@ abbrev pub setupState : Started → State
 setupState (S.Ready s) = s
 setupState (S.Refused why) = blankState
 
--- THE LEAST RING: its number, and the bytes that a setup needs
+-- THE LEAST RING, AND ONE THAT IS ENOUGH: the number, and the bytes
 abbrev pub neededNumber : Needed → ℕ
 neededNumber (M.Bytes n) = 0
 neededNumber (M.Refused why) = number why
@@ -43,6 +44,15 @@ neededNumber (M.Refused why) = number why
 abbrev pub neededBytes : Needed → ℕ
 neededBytes (M.Bytes n) = n
 neededBytes (M.Refused why) = 0
+
+-- MOVE: its number, and the record
+abbrev pub moveNumber : Moved → ℕ
+moveNumber (Q.Done s) = 0
+moveNumber (Q.Refused why s) = number why
+
+abbrev pub moveState : Moved → State
+moveState (Q.Done s) = s
+moveState (Q.Refused why s) = s
 
 -- STEP: its number, the record, the evaluations, and the verdict bytes that it took
 abbrev pub stepNumber : Stepped → ℕ

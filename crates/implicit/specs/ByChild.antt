@@ -20,7 +20,7 @@ use Rattle.queue.specs.declared.Measured.the-variants as M
 use Rattle.queue.specs.declared.Appended.{Appended}
 use Rattle.queue.specs.declared.Appended.the-variants as A
 use Rattle.queue.specs.Queue.{measured, appended, appendedRing}
-use Rattle.decide.specs.declared.Picture.{Picture}
+use Rattle.decide.specs.declared.Chosen.{Chosen}
 use Rattle.plan.specs.declared.Fate.{Fate}
 use Rattle.plan.specs.declared.Fate.the-variants as F
 use Rattle.plan.specs.declared.Plan.{Plan}
@@ -49,18 +49,18 @@ openedAs T.Outside = P.Refused R.Damaged
 -- refusals 2 and 13 of a sound record, then the bytes of the block; there are so many cells
 unfoldable pub opening : State → List ℕ → ℕ → Opened
 opening s ring cells =
-    refusedUnless (P.Refused R.Cells) (leb (pixelCount (s .picture)) cells)
+    refusedUnless (P.Refused R.Cells) (leb (pixelCount (s .chosen)) cells)
     (refusedUnless (P.Refused R.Empty) (ltb (s .taken) (s .queued)) (openedAs (frontOf s ring)))
 
 -- what is known of a step whose front block is read
 pub record Begun (s : State) (ring cells : List ℕ) (f : Front) : Type 0 where
   pub sound-record : soundRecord (length ring) s ≡ true
-  pub cells-enough : leb (pixelCount (s .picture)) (length cells) ≡ true
+  pub cells-enough : leb (pixelCount (s .chosen)) (length cells) ≡ true
   pub not-empty : ltb (s .taken) (s .queued) ≡ true
   pub front-read : frontOf s ring ≡ T.Front (f .block) (f .last) (f .head) (f .used)
 
 -- refusals 8 of the block and 4
-unfoldable pub blockCheck : Picture → Block → List ℕ → ℕ → ℕ → Bool → Check
+unfoldable pub blockCheck : Chosen → Block → List ℕ → ℕ → ℕ → Bool → Check
 blockCheck p b cells children verdicts tape =
     refusedUnless (C.Refused R.Damaged) (blockFine p cells b)
     (refusedUnless (C.Refused R.Verdicts) (enoughVerdicts tape children verdicts) C.Passed)
@@ -88,29 +88,29 @@ unfoldable pub planCheck : State → ℕ → ℕ → Plan → Check
 planCheck s len used p =
     refusedUnless (C.Refused R.Verdict) (p .legal)
     (refusedUnless (C.Refused R.Numbers) (leb (s .queued + p .queued) (2 ^ 32))
-    (refusedUnless (C.Refused R.Room) (leb (used + sizeOf (s .picture .set) (putLast (s .back)) (p .at)) len) C.Passed))
+    (refusedUnless (C.Refused R.Room) (leb (used + sizeOf (s .chosen .set) (putLast (s .back)) (p .at)) len) C.Passed))
 
 -- THE WRITING
 
 -- the cells that a block covers painted
-abbrev pub paintedBlock : Picture → Block → Op → List ℕ → List ℕ
+abbrev pub paintedBlock : Chosen → Block → Op → List ℕ → List ℕ
 paintedBlock p b op cells = paintedCells (p .width) (p .height) (rectangleOf (b .x) (b .y) (p .width) (p .height)) op cells
 
 -- first the marks
-abbrev pub markedBy : Picture → List ℕ → Block → Fate → List ℕ
+abbrev pub markedBy : Chosen → List ℕ → Block → Fate → List ℕ
 markedBy p cells b F.Nothing = cells
 markedBy p cells b F.Mark = paintedBlock p b O.Mark cells
 markedBy p cells b F.Queue = cells
 markedBy p cells b F.GiveUp = cells
 
-unfoldable pub markedAll : Picture → List ℕ → List Planned → List ℕ
+unfoldable pub markedAll : Chosen → List ℕ → List Planned → List ℕ
 markedAll p cells [] = cells
 markedAll p cells (e ∷ es) = markedAll p (markedBy p cells (e .block) (e .fate)) es
 
 -- the record once the front block is taken
 abbrev pub takenState : State → Front → State
 takenState s f = record {
-  picture = s .picture;
+  chosen = s .chosen;
   taken = s .taken + 1;
   queued = s .queued;
   len = s .len;
@@ -123,7 +123,7 @@ takenState s f = record {
 -- a child queued: its number is the next one, and cells that name block `from` or a later one name it
 abbrev pub numbered : State → Last → ℕ → State
 numbered s last used = record {
-  picture = s .picture;
+  chosen = s .chosen;
   taken = s .taken;
   queued = s .queued + 1;
   len = s .len;
@@ -139,7 +139,7 @@ withCarried s (K.Queued last used) = numbered s last used
 withCarried s K.Nothing = s
 
 abbrev pub queuedAs : ℕ → Block → World → List ℕ → Appended → World
-queuedAs from b w ring (A.Done last used) = worldOf (numbered (w .state) last used) ring (paintedBlock (w .state .picture) b (O.Name from (w .state .queued)) (w .cells))
+queuedAs from b w ring (A.Done last used) = worldOf (numbered (w .state) last used) ring (paintedBlock (w .state .chosen) b (O.Name from (w .state .queued)) (w .cells))
 queuedAs from b w ring A.NoRoom = worldOf (w .state) ring (w .cells)
 queuedAs from b w ring A.NotCodable = worldOf (w .state) ring (w .cells)
 queuedAs from b w ring A.Outside = worldOf (w .state) ring (w .cells)
@@ -147,15 +147,15 @@ queuedAs from b w ring A.Outside = worldOf (w .state) ring (w .cells)
 unfoldable pub withQueued : ℕ → Block → World → World
 withQueued from b w =
     let s = w .state in
-    queuedAs from b w (appendedRing (w .ring) (s .head) (s .used) (s .picture .set) (s .back) b)
-    (appended (length (w .ring)) (s .head) (s .used) (s .picture .set) (s .back) b)
+    queuedAs from b w (appendedRing (w .ring) (s .head) (s .used) (s .chosen .set) (s .back) b)
+    (appended (length (w .ring)) (s .head) (s .used) (s .chosen .set) (s .back) b)
 
 -- then the rest
 abbrev pub carriedBy : ℕ → Block → World → Block → Fate → World
 carriedBy from parent w b F.Nothing = w
 carriedBy from parent w b F.Mark = w
 carriedBy from parent w b F.Queue = withQueued from b w
-carriedBy from parent w b F.GiveUp = worldOf (w .state) (w .ring) (paintedBlock (w .state .picture) parent O.GiveUp (w .cells))
+carriedBy from parent w b F.GiveUp = worldOf (w .state) (w .ring) (paintedBlock (w .state .chosen) parent O.GiveUp (w .cells))
 
 unfoldable pub carriedAll : ℕ → Block → World → List Planned → World
 carriedAll from parent w [] = w
@@ -164,4 +164,4 @@ carriedAll from parent w (e ∷ es) = carriedAll from parent (carriedBy from par
 -- both
 unfoldable pub committed : World → Front → List Planned → World
 committed w f es =
-    carriedAll (w .state .taken) (f .block) (worldOf (takenState (w .state) f) (w .ring) (markedAll (w .state .picture) (w .cells) es)) es
+    carriedAll (w .state .taken) (f .block) (worldOf (takenState (w .state) f) (w .ring) (markedAll (w .state .chosen) (w .cells) es)) es

@@ -39,7 +39,7 @@ nextStep p ring cells tape = tapeStepOf (worldOf (p .state) ring cells) (drop (p
 -- one turn: the queue is empty, the budget is spent, or a step
 unfoldable pub turnedOnce : ℕ → Progress → List ℕ → List ℕ → List ℕ → Progress
 turnedOnce budget p ring cells tape =
-    cond (queueEmpty (p .state)) (halted p (emptyEnding (p .state .picture) cells))
+    cond (queueEmpty (p .state)) (halted p (emptyEnding (p .state .chosen) cells))
     (cond (leb budget (p .steps)) (halted p E.More) (progressAfter p (nextStep p ring cells tape)))
 
 unfoldable pub worldOnce : ℕ → Progress → List ℕ → List ℕ → List ℕ → World

@@ -8,4 +8,6 @@ pub mod ByChild
 pub mod Run
 pub mod ByStep
 pub mod View
+pub mod Room
+pub mod Move
 pub mod Answers

@@ -11,7 +11,7 @@ use Rattle.queue.specs.declared.Taken.{Taken}
 use Rattle.queue.specs.declared.Taken.the-variants as T
 use Rattle.queue.specs.Block.{wholeLine}
 use Rattle.queue.specs.Queue.{taken}
-use Rattle.decide.specs.declared.Picture.{Picture}
+use Rattle.decide.specs.declared.Chosen.{Chosen}
 use Rattle.decide.specs.Damage.{undamaged}
 use Rattle.decide.specs.Children.{childrenOf, listed}
 use Rattle.implicit.specs.declared.state.State.{State}
@@ -21,7 +21,7 @@ use Rattle.implicit.specs.Record.{refusedUnless, soundRecord}
 
 -- the front block, read from the bytes used and nothing else
 abbrev pub frontOf : State → List ℕ → Taken
-frontOf s ring = taken ring (s .head) (s .used) (s .picture .set) (s .front)
+frontOf s ring = taken ring (s .head) (s .used) (s .chosen .set) (s .front)
 
 -- a block for the places of an array that holds none
 abbrev pub blankBlock : Block
@@ -40,14 +40,14 @@ abbrev pub unlisted : Refusal → Listed
 unlisted why = record { answer = D.Refused why; children = listed blankBlock [] }
 
 -- the children of a block, unless it is damaged
-unfoldable pub listedBlock : Picture → Block → Listed
+unfoldable pub listedBlock : Chosen → Block → Listed
 listedBlock p b = refusedUnless (unlisted R.Damaged) (undamaged p b) (record { answer = D.Done; children = listed b (childrenOf p b) })
 
 -- the children of the block that was read
 abbrev pub listedFrom : State → Taken → Listed
 listedFrom s T.Damaged = unlisted R.Damaged
 listedFrom s T.Outside = unlisted R.Damaged
-listedFrom s (T.Front b last head used) = listedBlock (s .picture) b
+listedFrom s (T.Front b last head used) = listedBlock (s .chosen) b
 
 -- THE LISTING
 unfoldable pub childrenListed : State → List ℕ → Listed

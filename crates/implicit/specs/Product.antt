@@ -16,10 +16,10 @@ use Rattle.queue.specs.Directions.{inUse}
 use Rattle.queue.specs.Block.{wholeLine, isInteger, withParameter, remembered, startingLast}
 use Rattle.queue.specs.Code.{encode}
 use Rattle.queue.specs.Queue.{memory}
-use Rattle.decide.specs.declared.Picture.{Picture}
+use Rattle.decide.specs.declared.Chosen.{Chosen}
 use Rattle.implicit.specs.declared.state.Ranges.{Ranges}
 use Rattle.implicit.specs.declared.begin.Product.{Product}
-use Rattle.implicit.specs.declared.begin.Chosen.{Chosen}
+use Rattle.implicit.specs.declared.begin.Picked.{Picked}
 use Rattle.implicit.specs.declared.begin.Behind.{Behind}
 use Rattle.implicit.specs.Setup.{rootBlock, firstBlocks, firstBytes}
 
@@ -28,7 +28,7 @@ unfoldable pub piecesKept : ℕ → Direction → Interval → Pieces
 piecesKept set d r = cond (inUse set d) (piecesAt (legalInterval r (isInteger d)) (firstCut (putInterval r) (isInteger d))) (C.One wholeLine)
 
 -- the whole block, and the pieces of each parameter
-unfoldable pub productOf : Picture → Ranges → Product
+unfoldable pub productOf : Chosen → Ranges → Product
 productOf p r = record {
   root = rootBlock p r;
   m = piecesKept (p .set) D.M (r .m);
@@ -49,17 +49,17 @@ unfoldable pub productCount : Product → ℕ
 productCount f = pieceCount (f .m) * pieceCount (f .n) * pieceCount (f .theta) * pieceCount (f .t)
 
 -- a parameter's piece chosen by the number that is left, and that number divided by the count of the pieces
-abbrev pub chosenBy : Direction → Pieces → Chosen → Chosen
-chosenBy d c k = record { block = withParameter (k .block) d (pieceAt c (k .left % pieceCount c)); left = k .left / pieceCount c }
+abbrev pub pickedBy : Direction → Pieces → Picked → Picked
+pickedBy d c k = record { block = withParameter (k .block) d (pieceAt c (k .left % pieceCount c)); left = k .left / pieceCount c }
 
 -- the i-th block
 unfoldable pub productAt : Product → ℕ → Block
-productAt f i = chosenBy D.M (f .m) (chosenBy D.N (f .n) (chosenBy D.Theta (f .theta) (chosenBy D.T (f .t) (record { block = f .root; left = i })))) .block
+productAt f i = pickedBy D.M (f .m) (pickedBy D.N (f .n) (pickedBy D.Theta (f .theta) (pickedBy D.T (f .t) (record { block = f .root; left = i })))) .block
 
 -- what is remembered, and how many bytes are used, once a block's code stands behind those used before
 unfoldable pub behindWith : ℕ → Behind → Block → Behind
 behindWith set k b = record { back = remembered b; used = k .used + length (encode set (k .back) b) }
 
 -- the same once all first blocks are queued
-unfoldable pub behindFirst : Picture → Ranges → Behind
+unfoldable pub behindFirst : Chosen → Ranges → Behind
 behindFirst p r = record { back = memory startingLast (firstBlocks p r); used = length (firstBytes p r) }

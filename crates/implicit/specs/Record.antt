@@ -9,8 +9,8 @@ use Rattle.image.specs.Cell.{Cell, meanings}
 use Rattle.image.specs.Range.{wholePicture}
 use Rattle.image.specs.Painting.{heldCells}
 use Rattle.queue.specs.declared.Last.{Last}
-use Rattle.decide.specs.declared.Picture.{Picture}
-use Rattle.decide.specs.Damage.{legalPicture}
+use Rattle.decide.specs.declared.Chosen.{Chosen}
+use Rattle.decide.specs.Damage.{legalChosen}
 use Rattle.implicit.specs.declared.state.State.{State}
 
 -- this refusal, unless the test passes, and then the rest: the refusals of an entry read from the top, in the document's order
@@ -18,11 +18,11 @@ abbrev pub refusedUnless : {A : Type 0} → A → Bool → A → A
 refusedUnless refusal test rest = cond test rest refusal
 
 -- how many pixels the picture has
-abbrev pub pixelCount : Picture → ℕ
+abbrev pub pixelCount : Chosen → ℕ
 pixelCount p = p .width * p .height
 
 -- the cells of the pixels, rows from the top; those beyond are never looked at
-abbrev pub pixelCells : Picture → List ℕ → List Cell
+abbrev pub pixelCells : Chosen → List ℕ → List Cell
 pixelCells p l = heldCells (p .width) (wholePicture (p .width) (p .height)) (meanings l)
 
 -- what is remembered of a block: both indices in their range, all four intervals legal, also those of parameters that are not used
@@ -46,7 +46,7 @@ soundUse s = Bool·beq (eqb (s .used) 0) (eqb (s .taken) (s .queued))
 -- the record is not damaged
 unfoldable pub soundRecord : ℕ → State → Bool
 soundRecord len s =
-    legalPicture (s .picture) && soundCounts s && soundRing len s && soundUse s && soundLast (s .front) && soundLast (s .back)
+    legalChosen (s .chosen) && soundCounts s && soundRing len s && soundUse s && soundLast (s .front) && soundLast (s .back)
 
 -- the queue is empty: no block is left, and no byte
 abbrev pub queueEmpty : State → Bool

@@ -9,7 +9,7 @@ use Rattle.refusal.specs.declared.Refusal.{Refusal}
 use Rattle.refusal.specs.declared.Refusal.the-variants as R
 use Rattle.image.specs.Cell.{isGivenUp}
 use Rattle.image.specs.Painting.{someOf}
-use Rattle.decide.specs.declared.Picture.{Picture}
+use Rattle.decide.specs.declared.Chosen.{Chosen}
 use Rattle.implicit.specs.declared.state.State.{State}
 use Rattle.implicit.specs.declared.state.Ending.{Ending}
 use Rattle.implicit.specs.declared.state.Ending.the-variants as E
@@ -41,7 +41,7 @@ afterStep evals bytes r = record {
 }
 
 -- the queue is empty: limit where a pixel is given up, else done
-abbrev pub emptyEnding : Picture → List ℕ → Ending
+abbrev pub emptyEnding : Chosen → List ℕ → Ending
 emptyEnding p cells = cond (someOf isGivenUp (pixelCells p cells)) E.Limit E.Done
 
 -- how a run goes on from a step's end: it stops where the step was refused, else the rest follows on the world and the tape that the step leaves
@@ -51,9 +51,9 @@ goneOn w (finished next evals bytes) rest = afterStep evals bytes (rest next byt
 
 -- the run with so many steps left in its budget, on the rest of the tape
 unfoldable pub runFrom : ℕ → World → List ℕ → RunEnd
-runFrom zero w tape = cond (queueEmpty (w .state)) (endedAs w (emptyEnding (w .state .picture) (w .cells))) (endedAs w E.More)
+runFrom zero w tape = cond (queueEmpty (w .state)) (endedAs w (emptyEnding (w .state .chosen) (w .cells))) (endedAs w E.More)
 runFrom (suc left) w tape =
-    cond (queueEmpty (w .state)) (endedAs w (emptyEnding (w .state .picture) (w .cells)))
+    cond (queueEmpty (w .state)) (endedAs w (emptyEnding (w .state .chosen) (w .cells)))
     (goneOn w (tapeStepOf w tape) (λ next bytes. runFrom left next (drop bytes tape)))
 
 -- THE RUN
@@ -64,7 +64,7 @@ pub data RunAnswer : Type 0 where
 unfoldable pub runOf : ℕ → World → List ℕ → RunAnswer
 runOf budget w tape =
     refusedUnless (notRun R.Damaged) (soundRecord (length (w .ring)) (w .state))
-    (refusedUnless (notRun R.Cells) (leb (pixelCount (w .state .picture)) (length (w .cells))) (hasRun (runFrom budget w tape)))
+    (refusedUnless (notRun R.Cells) (leb (pixelCount (w .state .chosen)) (length (w .cells))) (hasRun (runFrom budget w tape)))
 
 -- its answer on a record, and the world afterwards
 abbrev pub runAnswer : State → RunAnswer → Ran

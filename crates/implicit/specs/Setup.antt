@@ -14,7 +14,7 @@ use Rattle.queue.specs.declared.directions.Direction.{Direction}
 use Rattle.queue.specs.declared.directions.Direction.the-variants as D
 use Rattle.queue.specs.Directions.{inUse, parameters}
 use Rattle.queue.specs.Block.{isInteger, parameterOf, withParameter, settledAt, startingLast}
-use Rattle.decide.specs.declared.Picture.{Picture}
+use Rattle.decide.specs.declared.Chosen.{Chosen}
 use Rattle.decide.specs.Damage.{legalSide, legalSet}
 use Rattle.implicit.specs.declared.begin.SetupEnd.{SetupEnd}
 use Rattle.implicit.specs.declared.begin.SetupEnd.the-variants as E
@@ -34,11 +34,11 @@ unfoldable pub leastFrom : ℕ → ℕ → ℕ → ℕ
 leastFrom zero k side = k
 leastFrom (suc n) k side = cond (leb side (2 ^ k)) k (leastFrom n (k + 1) side)
 
-unfoldable pub startLevel : Picture → ℕ
+unfoldable pub startLevel : Chosen → ℕ
 startLevel p = leastFrom 15 0 (max (p .width) (p .height))
 
 -- the block at the origin: a used range with its zeros put, and the whole line for one that is not used
-unfoldable pub rootBlock : Picture → Ranges → Block
+unfoldable pub rootBlock : Chosen → Ranges → Block
 rootBlock p r = record {
   x = record { index = 0; rank = 48 + startLevel p };
   y = record { index = 0; rank = 48 + startLevel p };
@@ -60,7 +60,7 @@ cutFirstIn set [] l = l
 cutFirstIn set (d ∷ ds) l = cutFirstIn set ds (cond (inUse set d) (eachCutFirst d l) l)
 
 -- the first blocks, in the order in which they are queued
-unfoldable pub firstBlocks : Picture → Ranges → List Block
+unfoldable pub firstBlocks : Chosen → Ranges → List Block
 firstBlocks p r = cutFirstIn (p .set) parameters (rootBlock p r ∷ [])
 
 -- what row 3 does not refuse: a set of known variables, and an interval for each parameter in it
@@ -68,11 +68,11 @@ unfoldable pub rangesLegal : ℕ → Ranges → Bool
 rangesLegal set r = legalSet set && parametersLegal set (r .m) (r .n) (r .theta) (r .t)
 
 -- the first blocks' codes, from byte 0
-unfoldable pub firstBytes : Picture → Ranges → List ℕ
+unfoldable pub firstBytes : Chosen → Ranges → List ℕ
 firstBytes p r = Queue.queueCodes (p .set) startingLast (firstBlocks p r)
 
 -- the first refusal that applies, if any, to a ring of len bytes and count cells
-unfoldable pub setupRefusal : Picture → Ranges → ℕ → ℕ → SetupEnd
+unfoldable pub setupRefusal : Chosen → Ranges → ℕ → ℕ → SetupEnd
 setupRefusal p r len count =
     refusedUnless (E.Rejected R.Side) (legalSide (p .width) && legalSide (p .height))
     (refusedUnless (E.Rejected R.Cells) (leb (pixelCount p) count)
@@ -80,15 +80,15 @@ setupRefusal p r len count =
     (refusedUnless (E.Rejected R.Room) (leb (length (firstBytes p r)) len) E.Begun)))
 
 -- the least ring with which a setup begins, asked before there are a ring and cells: of its refusals 1 and 3 are left
-unfoldable pub leastRing : Picture → Ranges → Needed
+unfoldable pub leastRing : Chosen → Ranges → Needed
 leastRing p r =
     refusedUnless (N.Refused R.Side) (legalSide (p .width) && legalSide (p .height))
     (refusedUnless (N.Refused R.Parameter) (rangesLegal (p .set) r) (N.Bytes (length (firstBytes p r))))
 
 -- the record that an accepted setup leaves
-unfoldable pub startRecord : Picture → Ranges → ℕ → State
+unfoldable pub startRecord : Chosen → Ranges → ℕ → State
 startRecord p r len = record {
-  picture = p;
+  chosen = p;
   taken = 0;
   queued = length (firstBlocks p r);
   len = len;
@@ -99,15 +99,15 @@ startRecord p r len = record {
 }
 
 -- the ring that it leaves, with the codes from byte 0 on, and the cells, every pixel's naming the last block
-unfoldable pub startRing : Picture → Ranges → List ℕ → List ℕ
+unfoldable pub startRing : Chosen → Ranges → List ℕ → List ℕ
 startRing p r ring = stored ring 0 (firstBytes p r)
 
-unfoldable pub startCells : Picture → Ranges → List ℕ → List ℕ
+unfoldable pub startCells : Chosen → Ranges → List ℕ → List ℕ
 startCells p r cells = paintedCells (p .width) (p .height) (wholePicture (p .width) (p .height)) (Op.Fill (length (firstBlocks p r) - 1)) cells
 
--- a picture of these sides and variables
-abbrev pub pictureOf : ℕ → ℕ → ℕ → Picture
-pictureOf width height set = record { width = width; height = height; set = set }
+-- what was chosen, with the reserved bytes 0: what a setup keeps of it
+abbrev pub cleared : Chosen → Chosen
+cleared p = record { width = p .width; height = p .height; set = p .set; reserved1 = 0; reserved2 = 0; reserved3 = 0 }
 
 -- THE SETUP: what it answers, and the ring and the cells afterwards, of which a refusal changes nothing
 abbrev pub startedBy : SetupEnd → State → Started
@@ -118,11 +118,11 @@ abbrev pub ifBegun : SetupEnd → List ℕ → List ℕ → List ℕ
 ifBegun E.Begun after before = after
 ifBegun (E.Rejected why) after before = before
 
-unfoldable pub startedAnswer : Picture → Ranges → ℕ → ℕ → Started
+unfoldable pub startedAnswer : Chosen → Ranges → ℕ → ℕ → Started
 startedAnswer p r len count = startedBy (setupRefusal p r len count) (startRecord p r len)
 
-unfoldable pub ringBegun : Picture → Ranges → List ℕ → List ℕ → List ℕ
+unfoldable pub ringBegun : Chosen → Ranges → List ℕ → List ℕ → List ℕ
 ringBegun p r ring cells = ifBegun (setupRefusal p r (length ring) (length cells)) (startRing p r ring) ring
 
-unfoldable pub cellsBegun : Picture → Ranges → List ℕ → List ℕ → List ℕ
+unfoldable pub cellsBegun : Chosen → Ranges → List ℕ → List ℕ → List ℕ
 cellsBegun p r ring cells = ifBegun (setupRefusal p r (length ring) (length cells)) (startCells p r cells) cells

@@ -16,7 +16,7 @@ use Rattle.queue.specs.declared.Taken.the-variants as T
 use Rattle.queue.specs.declared.Last.{Last}
 use Rattle.queue.specs.Ring.{storedBehind}
 use Rattle.queue.specs.Queue as Queue
-use Rattle.decide.specs.declared.Picture.{Picture}
+use Rattle.decide.specs.declared.Chosen.{Chosen}
 use Rattle.decide.specs.declared.verdict.Outcome.{Outcome}
 use Rattle.decide.specs.Damage.{undamaged, cellDamaged}
 use Rattle.decide.specs.Children.{childrenOf}
@@ -52,23 +52,23 @@ enoughVerdicts tape children verdicts = cond tape (leb children verdicts) (eqb v
 
 -- the outcomes of the children of b under the verdicts, what the step does by them, and the blocks that it queues
 abbrev pub outcomesOf : World → Block → List ℕ → List Outcome
-outcomesOf w b vs = outcomes (w .state .picture) (Cells.meanings (w .cells)) (childrenOf (w .state .picture) b) vs
+outcomesOf w b vs = outcomes (w .state .chosen) (Cells.meanings (w .cells)) (childrenOf (w .state .chosen) b) vs
 
 abbrev pub eventsOf : World → Block → List ℕ → List (Event Block)
-eventsOf w b vs = eventsFor (w .state .picture) b (childrenOf (w .state .picture) b) (outcomesOf w b vs)
+eventsOf w b vs = eventsFor (w .state .chosen) b (childrenOf (w .state .chosen) b) (outcomesOf w b vs)
 
 abbrev pub newBlocks : World → Block → List ℕ → List Block
 newBlocks w b vs = queuedBy (eventsOf w b vs)
 
 -- their codes, each against the block queued before it
 abbrev pub newBytes : World → Block → List ℕ → List ℕ
-newBytes w b vs = Queue.queueCodes (w .state .picture .set) (putLast (w .state .back)) (newBlocks w b vs)
+newBytes w b vs = Queue.queueCodes (w .state .chosen .set) (putLast (w .state .back)) (newBlocks w b vs)
 
 -- what the step leaves, once the front block b is taken, with what is remembered of it and the head and the use that this leaves
 unfoldable pub worldLeft : World → Block → Last → ℕ → ℕ → List ℕ → World
 worldLeft w b last head used vs = record {
   state = record {
-    picture = w .state .picture;
+    chosen = w .state .chosen;
     taken = w .state .taken + 1;
     queued = w .state .queued + length (newBlocks w b vs);
     len = w .state .len;
@@ -78,28 +78,28 @@ worldLeft w b last head used vs = record {
     back = Queue.memory (putLast (w .state .back)) (newBlocks w b vs);
   };
   ring = storedBehind (w .ring) head used (newBytes w b vs);
-  cells = Cells.codes (cellsAfter (w .state .picture) b (w .state .taken) (w .state .queued) (eventsOf w b vs) (Cells.meanings (w .cells)));
+  cells = Cells.codes (cellsAfter (w .state .chosen) b (w .state .taken) (w .state .queued) (eventsOf w b vs) (Cells.meanings (w .cells)));
 }
 
 -- neither the block nor a cell that it covers is damaged
-abbrev pub blockFine : Picture → List ℕ → Block → Bool
+abbrev pub blockFine : Chosen → List ℕ → Block → Bool
 blockFine p cells b = undamaged p b && not (cellDamaged p b (Cells.meanings cells))
 
 -- refusals 5, 7 and 6, with as many verdicts as children
 unfoldable pub judged : World → Block → Last → ℕ → ℕ → List ℕ → StepEnd
 judged w b last head used own =
-    unless R.Verdict (allLegal (childrenOf (w .state .picture) b) own)
+    unless R.Verdict (allLegal (childrenOf (w .state .chosen) b) own)
     (unless R.Numbers (leb (w .state .queued + length (newBlocks w b own)) (2 ^ 32))
     (unless R.Room (leb (used + length (newBytes w b own)) (length (w .ring)))
-    (finished (worldLeft w b last head used own) (evaluations (outcomesOf w b own)) (length (childrenOf (w .state .picture) b)))))
+    (finished (worldLeft w b last head used own) (evaluations (outcomesOf w b own)) (length (childrenOf (w .state .chosen) b)))))
 
 -- refusals 8 of the block and 4, and then those
 unfoldable pub opened : Bool → World → List ℕ → Taken → StepEnd
 opened tape w vs T.Damaged = refused R.Damaged
 opened tape w vs T.Outside = refused R.Damaged
 opened tape w vs (T.Front b last head used) =
-    let children = length (childrenOf (w .state .picture) b) in
-    unless R.Damaged (blockFine (w .state .picture) (w .cells) b)
+    let children = length (childrenOf (w .state .chosen) b) in
+    unless R.Damaged (blockFine (w .state .chosen) (w .cells) b)
     (unless R.Verdicts (enoughVerdicts tape children (length vs))
     (judged w b last head used (take children vs)))
 
@@ -107,7 +107,7 @@ opened tape w vs (T.Front b last head used) =
 unfoldable pub stepWith : Bool → World → List ℕ → StepEnd
 stepWith tape w vs =
     unless R.Damaged (soundRecord (length (w .ring)) (w .state))
-    (unless R.Cells (leb (pixelCount (w .state .picture)) (length (w .cells)))
+    (unless R.Cells (leb (pixelCount (w .state .chosen)) (length (w .cells)))
     (unless R.Empty (ltb (w .state .taken) (w .state .queued))
     (opened tape w vs (frontOf (w .state) (w .ring)))))
 

@@ -19,15 +19,15 @@ use Rattle.implicit.specs.Record.{refusedUnless, pixelCount, pixelCells,
 
 -- no pixel's cell is damaged
 abbrev pub cellsFine : State → List ℕ → Bool
-cellsFine s cells = not (someOf isDamaged (pixelCells (s .picture) cells))
+cellsFine s cells = not (someOf isDamaged (pixelCells (s .chosen) cells))
 
 -- a byte for each pixel by its reading, rows from the top
 unfoldable pub pictureBytes : State → List ℕ → List ℕ
-pictureBytes s cells = map (λ c. byteOf (reading (s .taken) c)) (pixelCells (s .picture) cells)
+pictureBytes s cells = map (λ c. byteOf (reading (s .taken) c)) (pixelCells (s .chosen) cells)
 
 -- the picture buffer afterwards: what lies beyond the pixels is as it was
 unfoldable pub pictureLeft : State → List ℕ → List ℕ → List ℕ
-pictureLeft s cells out = pictureBytes s cells ++ drop (pixelCount (s .picture)) out
+pictureLeft s cells out = pictureBytes s cells ++ drop (pixelCount (s .chosen)) out
 
 -- the share: settled pixels in thousandths of all, to the nearest, half up
 unfoldable pub shareOf : ℕ → ℕ → ℕ
@@ -37,8 +37,8 @@ shareOf settled pixels = (2000 * settled + pixels) / (2 * pixels)
 unfoldable pub pictureAnswer : State → List ℕ → ℕ → Drawn
 pictureAnswer s cells room =
     refusedUnless (D.Refused R.Damaged) (soundRecord (s .len) s)
-    (refusedUnless (D.Refused R.Cells) (leb (pixelCount (s .picture)) (length cells))
-    (refusedUnless (D.Refused R.Picture) (leb (pixelCount (s .picture)) room)
+    (refusedUnless (D.Refused R.Cells) (leb (pixelCount (s .chosen)) (length cells))
+    (refusedUnless (D.Refused R.Picture) (leb (pixelCount (s .chosen)) room)
     (refusedUnless (D.Refused R.Damaged) (cellsFine s cells) D.Done)))
 
 -- what the buffer then holds: by a refusal what it held
@@ -54,16 +54,16 @@ countsFrom s t = record {
   uncertain = t .uncertain;
   givenup = t .givenup;
   queued = s .queued - s .taken;
-  share = shareOf (t .trues + t .falses) (pixelCount (s .picture));
+  share = shareOf (t .trues + t .falses) (pixelCount (s .chosen));
 }
 
 -- of the pixels' cells
 abbrev pub countsOf : State → List ℕ → Counts
-countsOf s cells = countsFrom s (tallied (s .taken) (pixelCells (s .picture) cells))
+countsOf s cells = countsFrom s (tallied (s .taken) (pixelCells (s .chosen) cells))
 
 -- what the counts answer: the first refusal that applies, or the counts of the pixels
 unfoldable pub countsAnswer : State → List ℕ → Counted
 countsAnswer s cells =
     refusedUnless (C.Refused R.Damaged) (soundRecord (s .len) s)
-    (refusedUnless (C.Refused R.Cells) (leb (pixelCount (s .picture)) (length cells))
+    (refusedUnless (C.Refused R.Cells) (leb (pixelCount (s .chosen)) (length cells))
     (refusedUnless (C.Refused R.Damaged) (cellsFine s cells) (C.Of (countsOf s cells))))

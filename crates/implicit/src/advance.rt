@@ -5,7 +5,7 @@ ghost use Prim.Native.Nat.{_+_, _^_, _≤_};
 ghost use lib.Dec.{leb};
 ghost use lib.ListN.{length};
 ghost use Rattle.decide.specs.Children.{childrenOf, listed};
-ghost use Rattle.decide.specs.Damage.{legalPicture};
+ghost use Rattle.decide.specs.Damage.{legalChosen};
 ghost use Rattle.implicit.specs.Record.{pixelCount, soundRecord};
 ghost use Rattle.implicit.specs.Step.{worldOf, blockFine, enoughVerdicts, judged, stepWith, stepOf, tapeStepOf, EndsAs};
 ghost use Rattle.implicit.specs.ByStep.{SoundByUse};
@@ -18,7 +18,7 @@ use crate::record::pixel_count;
 use crate::record::put_last;
 use crate::state::State;
 use crate::state::Stepped;
-use decide::Picture;
+use decide::Chosen;
 use decide::children::Children;
 use decide::children::children_of;
 use decide::damage::has_damaged_cell;
@@ -114,13 +114,13 @@ fn advance(s: State, ring: &mut [u8], cells: &mut [u64], verdicts: &[u8], tape: 
 fn take_front(s: State, ring: &[u8], cells: usize) -> Opened
     ensures { λ r. ⌜ r ≡ opening s (now (ring .entry)) cells ⌝ }
 {
-    if cells < pixel_count(s.picture) {
+    if cells < pixel_count(s.chosen) {
         return Opened::Refused(Refusal::Cells);
     }
     if s.queued <= s.taken {
         return Opened::Refused(Refusal::Empty);
     }
-    let p = s.picture;
+    let p = s.chosen;
     let front = s.front;
     match queue::take(ring, s.head, s.used, p.set, front) {
         Taken::Front {
@@ -153,7 +153,7 @@ fn take_block(
     requires { ⌜ Begun s (now ring) (now cells) front ⌝ }
     ensures { λ r. ⌜ EndsAs (worldOf s (now (ring .entry)) (now (cells .entry))) (stepWith tape (worldOf s (now (ring .entry)) (now (cells .entry))) (now (verdicts .entry))) r (now (ring .exit)) (now (cells .exit)) ⌝ }
 {
-    let p = s.picture;
+    let p = s.chosen;
     let b = front.block;
     let kids = children_of(p, b);
     let count = kids.count;
@@ -165,14 +165,14 @@ fn take_block(
 
 // The block's own refusals, by the number of its children.
 fn check_block(
-    p: Picture,
+    p: Chosen,
     b: Block,
     cells: &[u64],
     children: usize,
     verdicts: usize,
     tape: bool,
 ) -> Check
-    requires { ⌜ (leb (pixelCount p) (length (now cells)) ≡ true) × (legalPicture p ≡ true) × (children ≡ length (childrenOf p b)) ⌝ }
+    requires { ⌜ (leb (pixelCount p) (length (now cells)) ≡ true) × (legalChosen p ≡ true) × (children ≡ length (childrenOf p b)) ⌝ }
     ensures { λ r. ⌜ r ≡ blockCheck p b (now (cells .entry)) children verdicts tape ⌝ }
 {
     if !is_fine(p, b, cells, children) {
@@ -185,8 +185,8 @@ fn check_block(
 }
 
 // Whether neither the block nor a cell that it covers is damaged: a damaged block, and no other, has no child.
-fn is_fine(p: Picture, b: Block, cells: &[u64], children: usize) -> bool
-    requires { ⌜ (leb (pixelCount p) (length (now cells)) ≡ true) × (legalPicture p ≡ true) × (children ≡ length (childrenOf p b)) ⌝ }
+fn is_fine(p: Chosen, b: Block, cells: &[u64], children: usize) -> bool
+    requires { ⌜ (leb (pixelCount p) (length (now cells)) ≡ true) × (legalChosen p ≡ true) × (children ≡ length (childrenOf p b)) ⌝ }
     ensures { λ r. ⌜ r ≡ blockFine p (now (cells .entry)) b ⌝ }
 {
     match has_damaged_cell(p, b, cells) {
@@ -215,10 +215,10 @@ fn judge(
     front: Front,
     kids: Children,
 ) -> Stepped
-    requires { ⌜ Begun s (now ring) (now cells) front × (blockFine (s .picture) (now cells) (front .block) ≡ true) × (kids ≡ listed (front .block) (childrenOf (s .picture) (front .block))) ⌝ }
+    requires { ⌜ Begun s (now ring) (now cells) front × (blockFine (s .chosen) (now cells) (front .block) ≡ true) × (kids ≡ listed (front .block) (childrenOf (s .chosen) (front .block))) ⌝ }
     ensures { λ r. ⌜ EndsAs (worldOf s (now (ring .entry)) (now (cells .entry))) (judged (worldOf s (now (ring .entry)) (now (cells .entry))) (front .block) (front .last) (front .head) (front .used) (now (verdicts .entry))) r (now (ring .exit)) (now (cells .exit)) ⌝ }
 {
-    let plan = plan_children(s.picture, front.block, kids, verdicts, cells);
+    let plan = plan_children(s.chosen, front.block, kids, verdicts, cells);
     match check_plan(s, ring.len(), front.used, plan) {
         Check::Refused(why) => Stepped::Refused { why, state: s },
         Check::Passed => {
@@ -248,7 +248,7 @@ fn check_plan(s: State, len: usize, used: usize, plan: Plan) -> Check
     if 332 <= room {
         return Check::Passed;
     }
-    let p = s.picture;
+    let p = s.chosen;
     if room < size_of(p.set, put_last(s.back), plan) {
         return Check::Refused(Refusal::Room);
     }

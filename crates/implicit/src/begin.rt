@@ -8,14 +8,15 @@ ghost use Rattle.queue.specs.Block.{settled};
 ghost use Rattle.queue.specs.Code.{encode};
 ghost use Rattle.queue.specs.Queue.{codable};
 ghost use Rattle.queue.specs.Ring.{fitsRing, storedBehind};
-ghost use Rattle.implicit.specs.Setup.{startLevel, rootBlock, rangesLegal, firstBytes, setupRefusal, leastRing, startRecord, startRing, startCells, startedAnswer, pictureOf, ringBegun, cellsBegun};
-ghost use Rattle.implicit.specs.Product.{piecesKept, productOf, pieceCount, pieceAt, chosenBy, productCount, productAt, behindWith, behindFirst};
+ghost use Rattle.implicit.specs.Setup.{startLevel, rootBlock, rangesLegal, firstBytes, setupRefusal, leastRing, startRecord, startRing, startCells, startedAnswer, cleared, ringBegun, cellsBegun};
+ghost use Rattle.implicit.specs.Answers.{neededBytes};
+ghost use Rattle.implicit.specs.Product.{piecesKept, productOf, pieceCount, pieceAt, pickedBy, productCount, productAt, behindWith, behindFirst};
 use super::state::Needed;
 use super::state::Ranges;
 use super::state::Started;
 use super::state::State;
 use coordinate::Coordinate;
-use decide::Picture;
+use decide::Chosen;
 use decide::damage::is_legal_side;
 use image::Op;
 use interval::Interval;
@@ -49,8 +50,8 @@ struct Product {
     t: Pieces,
 }
 
-// A first block of which some pieces are chosen, and the number that chooses the others.
-struct Chosen {
+// A first block of which some pieces are picked, and the number that picks the others.
+struct Picked {
     block: Block,
     left: usize,
 }
@@ -69,7 +70,7 @@ fn larger(a: u32, b: u32) -> u32
 }
 
 // The level of the first blocks.
-fn start_level(p: Picture) -> u8
+fn start_level(p: Chosen) -> u8
     ensures { λ r. ⌜ r ≡ startLevel p ⌝ }
     ensures { λ r. ⌜ r ≤ 15 ⌝ }
 {
@@ -83,7 +84,7 @@ fn start_level(p: Picture) -> u8
 }
 
 // The block that covers the whole picture and all ranges.
-fn root_block(p: Picture, ranges: Ranges) -> Block
+fn root_block(p: Chosen, ranges: Ranges) -> Block
     ensures { λ r. ⌜ r ≡ rootBlock p ranges ⌝ }
 {
     let c = Coordinate {
@@ -120,7 +121,7 @@ fn pieces_of(set: u8, d: Direction, range: Interval) -> Pieces
 }
 
 // What the first blocks are made of.
-fn product_of(p: Picture, ranges: Ranges) -> Product
+fn product_of(p: Chosen, ranges: Ranges) -> Product
     ensures { λ r. ⌜ r ≡ productOf p ranges ⌝ }
 {
     let root = root_block(p, ranges);
@@ -182,15 +183,15 @@ fn product_count(f: Product) -> usize
     piece_count(m) * piece_count(n) * piece_count(theta) * piece_count(t)
 }
 
-// A parameter's piece chosen by the number that is left, which it divides.
-fn choose(k: Chosen, d: Direction, c: Pieces) -> Chosen
+// A parameter's piece picked by the number that is left, which it divides.
+fn pick(k: Picked, d: Direction, c: Pieces) -> Picked
     requires { ⌜ 0 < pieceCount c ⌝ }
-    ensures { λ r. ⌜ r ≡ chosenBy d c k ⌝ }
+    ensures { λ r. ⌜ r ≡ pickedBy d c k ⌝ }
 {
     let n = piece_count(c);
     let piece = piece_at(c, k.left % n);
     let block = with_parameter(k.block, d, piece);
-    Chosen {
+    Picked {
         block,
         left: k.left / n,
     }
@@ -206,10 +207,10 @@ fn product_at(f: Product, i: usize) -> Block
     let n = f.n;
     let theta = f.theta;
     let t = f.t;
-    let k = choose(Chosen { block, left: i }, Direction::T, t);
-    let k = choose(k, Direction::Theta, theta);
-    let k = choose(k, Direction::N, n);
-    let k = choose(k, Direction::M, m);
+    let k = pick(Picked { block, left: i }, Direction::T, t);
+    let k = pick(k, Direction::Theta, theta);
+    let k = pick(k, Direction::N, n);
+    let k = pick(k, Direction::M, m);
     k.block
 }
 
@@ -228,9 +229,10 @@ fn measure_behind(set: u8, k: Behind, b: Block) -> Behind
 }
 
 // The bytes that the first blocks' codes take.
-fn measure_first(p: Picture, ranges: Ranges) -> usize
+fn measure_first(p: Chosen, ranges: Ranges) -> usize
     requires { ⌜ rangesLegal (p .set) ranges ≡ true ⌝ }
     ensures { λ r. ⌜ r ≡ length (firstBytes p ranges) ⌝ }
+    ensures { λ r. ⌜ r ≤ 83 * 81 ⌝ }
 {
     let f = product_of(p, ranges);
     let n = product_count(f);
@@ -253,7 +255,7 @@ fn are_ranges_legal(set: u8, ranges: Ranges) -> bool
 }
 
 // The first refusal that applies, if any, to a ring of so many bytes and so many cells.
-fn refuse(p: Picture, ranges: Ranges, len: usize, count: usize) -> SetupEnd
+fn refuse(p: Chosen, ranges: Ranges, len: usize, count: usize) -> SetupEnd
     ensures { λ r. ⌜ r ≡ setupRefusal p ranges len count ⌝ }
 {
     if !(is_legal_side(p.width) & is_legal_side(p.height)) {
@@ -271,18 +273,18 @@ fn refuse(p: Picture, ranges: Ranges, len: usize, count: usize) -> SetupEnd
     SetupEnd::Begun
 }
 
-// The least ring for a setup; what later steps need is not told by it.
-pub fn least_ring(width: u32, height: u32, set: u8, ranges: Ranges) -> Needed
-    ensures { λ r. ⌜ r ≡ leastRing (pictureOf width height set) ranges ⌝ }
+// The least ring for a setup, 81 codes at most; what later steps need is told by enough_ring.
+pub fn least_ring(chosen: Chosen, ranges: Ranges) -> Needed
+    ensures { λ r. ⌜ r ≡ leastRing chosen ranges ⌝ }
+    ensures { λ r. ⌜ neededBytes r ≤ 83 * 81 ⌝ }
 {
-    let p = Picture { width, height, set };
-    if !(is_legal_side(width) & is_legal_side(height)) {
+    if !(is_legal_side(chosen.width) & is_legal_side(chosen.height)) {
         return Needed::Refused(Refusal::Side);
     }
-    if !are_ranges_legal(set, ranges) {
+    if !are_ranges_legal(chosen.set, ranges) {
         return Needed::Refused(Refusal::Parameter);
     }
-    Needed::Bytes(measure_first(p, ranges))
+    Needed::Bytes(measure_first(chosen, ranges))
 }
 
 // A block's code written behind the bytes used, from byte 0 on.
@@ -299,7 +301,7 @@ fn queue_behind(ring: &mut [u8], set: u8, k: Behind, b: Block) -> Behind
 }
 
 // The first blocks queued, in order.
-fn queue_first(p: Picture, ranges: Ranges, ring: &mut [u8]) -> Behind
+fn queue_first(p: Chosen, ranges: Ranges, ring: &mut [u8]) -> Behind
     requires { ⌜ (rangesLegal (p .set) ranges ≡ true) × (length (firstBytes p ranges) ≤ length (now ring)) ⌝ }
     ensures { λ r. ⌜ (r ≡ behindFirst p ranges) × (now (ring .exit) ≡ startRing p ranges (now (ring .entry))) ⌝ }
 {
@@ -316,7 +318,7 @@ fn queue_first(p: Picture, ranges: Ranges, ring: &mut [u8]) -> Behind
 }
 
 // The first blocks queued, every pixel's cell naming the last of them, and the record.
-fn begin(p: Picture, ranges: Ranges, ring: &mut [u8], cells: &mut [u64]) -> State
+fn begin(p: Chosen, ranges: Ranges, ring: &mut [u8], cells: &mut [u64]) -> State
     requires { ⌜ setupRefusal p ranges (length (now ring)) (length (now cells)) ≡ SetupEnd.Begun ⌝ }
     ensures { λ r. ⌜ r ≡ startRecord p ranges (length (now (ring .entry))) ⌝ }
     ensures { λ r. ⌜ now (ring .exit) ≡ startRing p ranges (now (ring .entry)) ⌝ }
@@ -328,7 +330,7 @@ fn begin(p: Picture, ranges: Ranges, ring: &mut [u8], cells: &mut [u64]) -> Stat
     image::paint(cells, p.width, p.height, all, Op::Fill { to: queued - 1 });
     let back = k.back;
     State {
-        picture: p,
+        chosen: p,
         taken: 0,
         queued,
         len: ring.len(),
@@ -340,19 +342,19 @@ fn begin(p: Picture, ranges: Ranges, ring: &mut [u8], cells: &mut [u64]) -> Stat
 }
 
 // Begins a picture: refused by 1, 2, 3 or 6 it writes nothing.
-pub fn setup(
-    width: u32,
-    height: u32,
-    set: u8,
-    ranges: Ranges,
-    ring: &mut [u8],
-    cells: &mut [u64],
-) -> Started
-    ensures { λ r. ⌜ r ≡ startedAnswer (pictureOf width height set) ranges (length (now (ring .entry))) (length (now (cells .entry))) ⌝ }
-    ensures { λ r. ⌜ now (ring .exit) ≡ ringBegun (pictureOf width height set) ranges (now (ring .entry)) (now (cells .entry)) ⌝ }
-    ensures { λ r. ⌜ now (cells .exit) ≡ cellsBegun (pictureOf width height set) ranges (now (ring .entry)) (now (cells .entry)) ⌝ }
+pub fn setup(chosen: Chosen, ranges: Ranges, ring: &mut [u8], cells: &mut [u64]) -> Started
+    ensures { λ r. ⌜ r ≡ startedAnswer (cleared chosen) ranges (length (now (ring .entry))) (length (now (cells .entry))) ⌝ }
+    ensures { λ r. ⌜ now (ring .exit) ≡ ringBegun (cleared chosen) ranges (now (ring .entry)) (now (cells .entry)) ⌝ }
+    ensures { λ r. ⌜ now (cells .exit) ≡ cellsBegun (cleared chosen) ranges (now (ring .entry)) (now (cells .entry)) ⌝ }
 {
-    let p = Picture { width, height, set };
+    let p = Chosen {
+        width: chosen.width,
+        height: chosen.height,
+        set: chosen.set,
+        reserved1: 0,
+        reserved2: 0,
+        reserved3: 0,
+    };
     match refuse(p, ranges, ring.len(), cells.len()) {
         SetupEnd::Begun => Started::Ready(begin(p, ranges, ring, cells)),
         SetupEnd::Rejected(why) => Started::Refused(why),

@@ -7,7 +7,7 @@ ghost use Rattle.implicit.specs.ByChild.{paintedBlock, markedBy, markedA
 use crate::advance::Front;
 use crate::record::put_last;
 use crate::state::State;
-use decide::Picture;
+use decide::Chosen;
 use image::Op;
 use plan::Fate;
 use plan::Plan;
@@ -33,12 +33,12 @@ pub(crate) fn commit(
     requires { ⌜ (s .queued ≤ 2 ^ 32) × (s .taken ≤ 2 ^ 32) × (length (plan .at) ≡ 4) ⌝ }
     ensures { λ r. ⌜ worldOf r (now (ring .exit)) (now (cells .exit)) ≡ committed (worldOf s (now (ring .entry)) (now (cells .entry))) front (plan .at) ⌝ }
 {
-    mark_children(s.picture, cells, plan);
+    mark_children(s.chosen, cells, plan);
     let next = with_front_taken(s, front);
     carry_children(next, ring, cells, s.taken, front.block, plan)
 }
 
-fn mark_children(p: Picture, cells: &mut [u64], plan: Plan)
+fn mark_children(p: Chosen, cells: &mut [u64], plan: Plan)
     requires { ⌜ length (plan .at) ≡ 4 ⌝ }
     ensures { λ _. ⌜ now (cells .exit) ≡ markedAll p (now (cells .entry)) (plan .at) ⌝ }
 {
@@ -48,7 +48,7 @@ fn mark_children(p: Picture, cells: &mut [u64], plan: Plan)
     }
 }
 
-fn mark_child(p: Picture, cells: &mut [u64], e: Planned)
+fn mark_child(p: Chosen, cells: &mut [u64], e: Planned)
     ensures { λ _. ⌜ now (cells .exit) ≡ markedBy p (now (cells .entry)) (e .block) (e .fate) ⌝ }
 {
     let fate = e.fate;
@@ -64,7 +64,7 @@ fn mark_child(p: Picture, cells: &mut [u64], e: Planned)
 }
 
 // Changes every cell that the block covers.
-fn paint_block(p: Picture, cells: &mut [u64], b: Block, op: Op)
+fn paint_block(p: Chosen, cells: &mut [u64], b: Block, op: Op)
     ensures { λ _. ⌜ now (cells .exit) ≡ paintedBlock p b op (now (cells .entry)) ⌝ }
 {
     let r = image::rectangle(b.x, b.y, p.width, p.height);
@@ -76,10 +76,10 @@ fn with_front_taken(s: State, front: Front) -> State
     requires { ⌜ s .taken ≤ 2 ^ 32 ⌝ }
     ensures { λ r. ⌜ r ≡ takenState s front ⌝ }
 {
-    let picture = s.picture;
+    let chosen = s.chosen;
     let last = front.last;
     State {
-        picture,
+        chosen,
         taken: s.taken + 1,
         queued: s.queued,
         len: s.len,
@@ -136,14 +136,14 @@ fn carry_child(
             queue_child(s, ring, cells, from, b)
         }
         Fate::GiveUp => {
-            let p = s.picture;
+            let p = s.chosen;
             give_up(p, cells, parent)
         }
     }
 }
 
 // All cells of the parent, True ones too.
-fn give_up(p: Picture, cells: &mut [u64], parent: Block) -> Carried
+fn give_up(p: Chosen, cells: &mut [u64], parent: Block) -> Carried
     ensures { λ r. ⌜ (r ≡ Carried.Nothing) × (now (cells .exit) ≡ paintedBlock p parent Op.GiveUp (now (cells .entry))) ⌝ }
 {
     paint_block(p, cells, parent, Op::GiveUp);
@@ -154,7 +154,7 @@ fn give_up(p: Picture, cells: &mut [u64], parent: Block) -> Carried
 fn queue_child(s: State, ring: &mut [u8], cells: &mut [u64], from: u64, b: Block) -> Carried
     ensures { λ r. ⌜ worldOf (withCarried s r) (now (ring .exit)) (now (cells .exit)) ≡ withQueued from b (worldOf s (now (ring .entry)) (now (cells .entry))) ⌝ }
 {
-    let p = s.picture;
+    let p = s.chosen;
     let name = Op::Name { from, to: s.queued };
     let back = s.back;
     match queue::append(ring, s.head, s.used, p.set, back, b) {

@@ -16,7 +16,7 @@ use crate::state::Ending;
 use crate::state::Ran;
 use crate::state::State;
 use crate::state::Stepped;
-use decide::Picture;
+use decide::Chosen;
 use image::Kind;
 use image::Seen;
 use refusal::Refusal;
@@ -41,7 +41,7 @@ pub fn run(s: State, ring: &mut [u8], cells: &mut [u64], tape: &[u8], budget: u3
             state: s,
         };
     }
-    if cells.len() < pixel_count(s.picture) {
+    if cells.len() < pixel_count(s.chosen) {
         return Ran::Refused {
             why: Refusal::Cells,
             state: s,
@@ -66,7 +66,7 @@ fn report(p: Progress) -> Ran
 
 // All steps of a run.
 fn take_steps(s: State, ring: &mut [u8], cells: &mut [u64], tape: &[u8], budget: u32) -> Progress
-    requires { ⌜ (leb (pixelCount (s .picture)) (length (now cells)) ≡ true) × (soundRecord (length (now ring)) s ≡ true) ⌝ }
+    requires { ⌜ (leb (pixelCount (s .chosen)) (length (now cells)) ≡ true) × (soundRecord (length (now ring)) s ≡ true) ⌝ }
     ensures { λ r. ⌜ RunTo (runFrom budget (worldOf s (now (ring .entry)) (now (cells .entry))) (now (tape .entry))) r (now (ring .exit)) (now (cells .exit)) ⌝ }
 {
     let mut p = Progress {
@@ -85,12 +85,12 @@ fn take_steps(s: State, ring: &mut [u8], cells: &mut [u64], tape: &[u8], budget:
 
 // The tests of a run in their order, and the next step.
 fn go_on(p: Progress, ring: &mut [u8], cells: &mut [u64], tape: &[u8], budget: u32) -> Progress
-    requires { ⌜ Bounded budget (now tape) p × (leb (pixelCount (p .state .picture)) (length (now cells)) ≡ true) × SoundByUse (length (now ring)) (p .state) ⌝ }
+    requires { ⌜ Bounded budget (now tape) p × (leb (pixelCount (p .state .chosen)) (length (now cells)) ≡ true) × SoundByUse (length (now ring)) (p .state) ⌝ }
     ensures { λ r. ⌜ (r ≡ turnedOnce budget p (now (ring .entry)) (now (cells .entry)) (now (tape .entry))) × (worldOf (r .state) (now (ring .exit)) (now (cells .exit)) ≡ worldOnce budget p (now (ring .entry)) (now (cells .entry)) (now (tape .entry))) × SoundByUse (length (now (ring .exit))) (r .state) ⌝ }
 {
     if is_empty(p.state) {
         let s = p.state;
-        return halt(p, empty_ending(s.picture, cells));
+        return halt(p, empty_ending(s.chosen, cells));
     }
     if budget as u64 <= p.steps {
         return halt(p, Ending::More);
@@ -99,7 +99,7 @@ fn go_on(p: Progress, ring: &mut [u8], cells: &mut [u64], tape: &[u8], budget: u
 }
 
 // How a run ends whose queue is empty.
-fn empty_ending(p: Picture, cells: &[u64]) -> Ending
+fn empty_ending(p: Chosen, cells: &[u64]) -> Ending
     requires { ⌜ leb (pixelCount p) (length (now cells)) ≡ true ⌝ }
     ensures { λ r. ⌜ r ≡ emptyEnding p (now (cells .entry)) ⌝ }
 {

@@ -3,14 +3,14 @@ ghost use mathlib.Core.Path.{_≡_};
 ghost use mathlib.Core.Bool.{true};
 ghost use mathlib.Core.List.{[]};
 ghost use Rattle.decide.specs.Children.{listed};
-ghost use Rattle.decide.specs.Damage.{legalPicture};
+ghost use Rattle.decide.specs.Damage.{legalChosen};
 ghost use Rattle.implicit.specs.Listing.{frontOf, blankBlock, unlisted, listedBlock, listedFrom, childrenListed};
 use crate::record::is_sound;
 use crate::state::Drawn;
 use crate::state::Listed;
 use crate::state::State;
 use coordinate::Coordinate;
-use decide::Picture;
+use decide::Chosen;
 use decide::children::Children;
 use decide::children::children_of;
 use queue::Block;
@@ -32,10 +32,10 @@ pub fn children(s: State, ring: &[u8]) -> Listed
 }
 
 fn list_front(s: State, ring: &[u8]) -> Listed
-    requires { ⌜ legalPicture (s .picture) ≡ true ⌝ }
+    requires { ⌜ legalChosen (s .chosen) ≡ true ⌝ }
     ensures { λ r. ⌜ r ≡ listedFrom s (frontOf s (now (ring .entry))) ⌝ }
 {
-    let p = s.picture;
+    let p = s.chosen;
     match queue::take(ring, s.head, s.used, p.set, s.front) {
         Taken::Front {
             block,
@@ -49,8 +49,8 @@ fn list_front(s: State, ring: &[u8]) -> Listed
 }
 
 // A damaged block, and no other, has no child.
-fn list_block(p: Picture, b: Block) -> Listed
-    requires { ⌜ legalPicture p ≡ true ⌝ }
+fn list_block(p: Chosen, b: Block) -> Listed
+    requires { ⌜ legalChosen p ≡ true ⌝ }
     ensures { λ r. ⌜ r ≡ listedBlock p b ⌝ }
 {
     let kids = children_of(p, b);

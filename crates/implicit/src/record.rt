@@ -3,15 +3,15 @@
 ghost use mathlib.Core.Path.{_≡_};
 ghost use Rattle.implicit.specs.Record.{pixelCount, soundLast, soundCounts, soundRing, soundUse, soundRecord, queueEmpty, putLast};
 use crate::state::State;
-use decide::Picture;
-use decide::damage::is_legal_picture;
+use decide::Chosen;
+use decide::damage::is_legal_chosen;
 use queue::Last;
 
 // Whether a record is not damaged, for a ring of so many bytes.
 pub(crate) fn is_sound(len: usize, s: State) -> bool
     ensures { λ r. ⌜ r ≡ soundRecord len s ⌝ }
 {
-    is_legal_picture(s.picture)
+    is_legal_chosen(s.chosen)
         & has_sound_counts(s)
         & has_sound_ring(len, s)
         & has_sound_use(s)
@@ -50,7 +50,7 @@ fn is_sound_last(l: Last) -> bool
 }
 
 // How many pixels a picture has.
-pub(crate) fn pixel_count(p: Picture) -> usize
+pub(crate) fn pixel_count(p: Chosen) -> usize
     ensures { λ r. ⌜ r ≡ pixelCount p ⌝ }
 {
     p.width as usize * p.height as usize

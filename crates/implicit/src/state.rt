@@ -1,16 +1,16 @@
 // The record of a picture being refined, and what the entries answer.
-use decide::Picture;
+use decide::Chosen;
 use decide::children::Children;
 use interval::Interval;
 use queue::Last;
 use refusal::Refusal;
 
-// The record. What setup chose stays in `picture`, which no step changes. Blocks are numbered in the order in which they are queued, from 0:
+// The record. What setup chose stays in `chosen`, which no step changes. Blocks are numbered in the order in which they are queued, from 0:
 // `taken` is the number of the front block, `queued` that of the next new one. Of the ring's `len` bytes, `used` from `head` on hold the queue.
 // `front` and `back` are the remembered values of the last block taken and of the last one queued.
 #[repr(C)]
 pub struct State {
-    pub picture: Picture,
+    pub chosen: Chosen,
     pub taken: u64,
     pub queued: u64,
     pub len: usize,
@@ -35,10 +35,16 @@ pub enum Started {
     Refused(Refusal),
 }
 
-// How many bytes a ring needs at least, so that a setup begins.
+// How many bytes a ring needs, so that a setup begins, or so many steps behind it.
 pub enum Needed {
     Bytes(usize),
     Refused(Refusal),
+}
+
+// A move's answer: the record over the other ring; or why not, with the record as it was given.
+pub enum Moved {
+    Done(State),
+    Refused { why: Refusal, state: State },
 }
 
 // A step's answer: the record it leaves, its evaluations and the verdict bytes it took; or why not, with the record as it was given.

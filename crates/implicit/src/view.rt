@@ -35,7 +35,7 @@ pub fn picture(s: State, cells: &[u64], out: &mut [u8]) -> Drawn
 pub fn counts(s: State, cells: &[u64]) -> Counted
     ensures { λ r. ⌜ r ≡ countsAnswer s (now (cells .entry)) ⌝ }
 {
-    match examine(s, cells, pixel_count(s.picture)) {
+    match examine(s, cells, pixel_count(s.chosen)) {
         Drawn::Done => count_pixels(s, cells),
         Drawn::Refused(why) => Counted::Refused(why),
     }
@@ -45,7 +45,7 @@ pub fn counts(s: State, cells: &[u64]) -> Counted
 fn examine(s: State, cells: &[u64], room: usize) -> Drawn
     ensures { λ r. ⌜ r ≡ pictureAnswer s (now (cells .entry)) room ⌝ }
 {
-    let pixels = pixel_count(s.picture);
+    let pixels = pixel_count(s.chosen);
     if !is_sound(s.len, s) {
         return Drawn::Refused(Refusal::Damaged);
     }
@@ -64,26 +64,26 @@ fn examine(s: State, cells: &[u64], room: usize) -> Drawn
 
 // Whether no pixel's cell is damaged.
 fn are_fine(s: State, cells: &[u64]) -> bool
-    requires { ⌜ pixelCount (s .picture) ≤ length (now cells) ⌝ }
+    requires { ⌜ pixelCount (s .chosen) ≤ length (now cells) ⌝ }
     ensures { λ r. ⌜ r ≡ cellsFine s (now (cells .entry)) ⌝ }
 {
-    let pixels = pixel_count(s.picture);
+    let pixels = pixel_count(s.chosen);
     !image::is_any(&cells[0..pixels], Kind::Damaged)
 }
 
 fn draw(s: State, cells: &[u64], out: &mut [u8])
-    requires { ⌜ (pixelCount (s .picture) ≤ length (now cells)) × (pixelCount (s .picture) ≤ length (now out)) ⌝ }
+    requires { ⌜ (pixelCount (s .chosen) ≤ length (now cells)) × (pixelCount (s .chosen) ≤ length (now out)) ⌝ }
     ensures { λ _. ⌜ now (out .exit) ≡ pictureLeft s (now (cells .entry)) (now (out .entry)) ⌝ }
 {
-    let pixels = pixel_count(s.picture);
+    let pixels = pixel_count(s.chosen);
     image::draw(&cells[0..pixels], s.taken, &mut out[0..pixels]);
 }
 
 fn count_pixels(s: State, cells: &[u64]) -> Counted
-    requires { ⌜ (soundRecord (s .len) s ≡ true) × (pixelCount (s .picture) ≤ length (now cells)) ⌝ }
+    requires { ⌜ (soundRecord (s .len) s ≡ true) × (pixelCount (s .chosen) ≤ length (now cells)) ⌝ }
     ensures { λ r. ⌜ r ≡ Counted.Of (countsOf s (now (cells .entry))) ⌝ }
 {
-    let p = s.picture;
+    let p = s.chosen;
     let all = image::whole(p.width, p.height);
     match image::count(cells, p.width, p.height, all, s.taken) {
         TallyAnswer::Of(t) => Counted::Of(with_share(s, t)),
@@ -92,10 +92,10 @@ fn count_pixels(s: State, cells: &[u64]) -> Counted
 }
 
 fn with_share(s: State, t: Tally) -> Counts
-    requires { ⌜ (soundRecord (s .len) s ≡ true) × (t .trues + t .falses ≤ pixelCount (s .picture)) ⌝ }
+    requires { ⌜ (soundRecord (s .len) s ≡ true) × (t .trues + t .falses ≤ pixelCount (s .chosen)) ⌝ }
     ensures { λ r. ⌜ r ≡ countsFrom s t ⌝ }
 {
-    let pixels = pixel_count(s.picture) as u64;
+    let pixels = pixel_count(s.chosen) as u64;
     Counts {
         trues: t.trues,
         falses: t.falses,

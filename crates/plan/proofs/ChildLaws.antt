@@ -28,7 +28,7 @@ use Rattle.queue.specs.declared.directions.DirectionAt.the-variants as A
 use Rattle.queue.specs.Directions.{inUse, usedOf, directions, parameters, directionAt}
 use Rattle.queue.specs.Block.{isInteger, parameterOf, withParameter}
 use Rattle.queue.proofs.RoundTrip.{ParameterFine, CanQueue}
-use Rattle.decide.specs.declared.Picture.{Picture}
+use Rattle.decide.specs.declared.Chosen.{Chosen}
 use Rattle.decide.specs.Damage.{sound, directionOf}
 use Rattle.decide.specs.Children.{movedTo, quartersOf, beginsInside, keptInside, childrenXY, childrenCut, childrenAlong, childrenOf}
 use Rattle.plan.proofs.Each.{Each, each-also, each-both, each-map}
@@ -39,7 +39,7 @@ use Rattle.plan.proofs.PlaceLaws.{InPlace, QuarterOf, Lies, stays, quar
 -- WHERE THEY LIE
 
 -- a child's place: its parent's or a quarter of it, in the ranges and inside the picture; its direction byte is still its parent's
-pub record ChildPlace (p : Picture) (b c : Block) : Type 0 where
+pub record ChildPlace (p : Chosen) (b c : Block) : Type 0 where
   pub lies : Lies b c
   pub ranks : c .x .rank ≡ c .y .rank
   pub x : Placed (p .width) (c .x)
@@ -52,7 +52,7 @@ half-inside side rank i whole j e f h t =
     let g : inside side (suc rank) (i / 2) ≡ true = rw (e, f) t in
     inside-pixel side rank i ∙ ap (λ (n : ℕ). ltb n side) (half-pixel rank i h) ∙ sym (inside-pixel side (suc rank) (i / 2)) ∙ g
 
-module _ (p : Picture) (b : Block) (ok : sound p b ≡ true) where
+module _ (p : Chosen) (b : Block) (ok : sound p b ≡ true) where
   s : Sound p b
   s = is-sound p b ok
 
@@ -68,8 +68,8 @@ module _ (p : Picture) (b : Block) (ok : sound p b ≡ true) where
       record {
         lies = quarters q;
         ranks = omega arith;
-        x = record { in-ranges = inside-in-range (p .width) ordinaryFloor (c .x .rank) (c .x .index) (s .picture .width-most) (omega arith) (omega arith) ix; inside-side = ix };
-        y = record { in-ranges = inside-in-range (p .height) ordinaryFloor (c .y .rank) (c .y .index) (s .picture .height-most) (omega arith) (omega arith) iy; inside-side = iy };
+        x = record { in-ranges = inside-in-range (p .width) ordinaryFloor (c .x .rank) (c .x .index) (s .chosen .width-most) (omega arith) (omega arith) ix; inside-side = ix };
+        y = record { in-ranges = inside-in-range (p .height) ordinaryFloor (c .y .rank) (c .y .index) (s .chosen .height-most) (omega arith) (omega arith) iy; inside-side = iy };
         dir = q .dir;
       }
 
@@ -137,7 +137,7 @@ module _ (p : Picture) (b : Block) (ok : sound p b ≡ true) where
   children-some = rw ok (along-some (directionOf p b) refl)
 
 -- and a damaged one none, so that their number tells
-pub some-child : (p : Picture) (b : Block) → ltb 0 (length (childrenOf p b)) ≡ sound p b
+pub some-child : (p : Chosen) (b : Block) → ltb 0 (length (childrenOf p b)) ≡ sound p b
 some-child p b =
     cases (sound p b) (λ ok. lt-ltb 0 (length (childrenOf p b)) (children-some p b ok) ∙ sym ok) (λ bad. ap (λ (l : List Block). ltb 0 (length l)) (unsound p b bad) ∙ sym bad)
 
@@ -155,7 +155,7 @@ named-in-use set (c ∷ ds) at d e = go (inUse set c) refl at (λ n. named-in-us
     go true f (suc n) ih g = ih n g
     go false f n ih g = ih n g
 
-pub direction-in-use : (p : Picture) (b : Block) (d : Direction) → directionOf p b ≡ A.Along d → inUse (p .set) d ≡ true
+pub direction-in-use : (p : Chosen) (b : Block) (d : Direction) → directionOf p b ≡ A.Along d → inUse (p .set) d ≡ true
 unfolding directions
 direction-in-use p b d e = named-in-use (p .set) (D.XY ∷ parameters) (b .dir) d e
 
@@ -223,7 +223,7 @@ cut-proper set b d u f =
     pieces-each (Proper (isInteger d)) (laterCut (putInterval x) (isInteger d))
     (later-proper (putInterval x) (isInteger d) (put-format x (z .format)) (put-legal x (isInteger d) ∙ z .legal))
 
-module _ (p : Picture) (b : Block) (ok : sound p b ≡ true) (f : Fine (p .set) b) where
+module _ (p : Chosen) (b : Block) (ok : sound p b ≡ true) (f : Fine (p .set) b) where
   xy-fine : Each (Fine (p .set)) (childrenXY p b)
   unfolding childrenXY quartersOf
   xy-fine =
@@ -253,15 +253,15 @@ module _ (p : Picture) (b : Block) (ok : sound p b ≡ true) (f : Fine (p .set) 
   children-fine = rw ok (along-fine (directionOf p b) refl)
 
 -- a child can be queued as it is
-pub child-can-queue : (p : Picture) (b c : Block) → ChildPlace p b c → Fine (p .set) c → CanQueue (p .set) c
+pub child-can-queue : (p : Chosen) (b c : Block) → ChildPlace p b c → Fine (p .set) c → CanQueue (p .set) c
 child-can-queue p b c h f = record { x = ranged ordinaryFloor (c .x .rank) (c .x .index) (h .x .in-ranges); y = ranged ordinaryFloor (c .y .rank) (c .y .index) (h .y .in-ranges); fine = f }
 
-pub children-can-queue : (p : Picture) (b : Block) → sound p b ≡ true → CanQueue (p .set) b → Each (CanQueue (p .set)) (childrenOf p b)
+pub children-can-queue : (p : Chosen) (b : Block) → sound p b ≡ true → CanQueue (p .set) b → Each (CanQueue (p .set)) (childrenOf p b)
 children-can-queue p b ok q =
     each-both (ChildPlace p b) (Fine (p .set)) (CanQueue (p .set)) (child-can-queue p b) (childrenOf p b) (children-placed p b ok) (children-fine p b ok (q .fine))
 
 -- an index stays under 2^47
-pub children-bounded : (p : Picture) (b : Block) → sound p b ≡ true → Each (λ c. (c .x .index < 2 ^ 47) × (c .y .index < 2 ^ 47)) (childrenOf p b)
+pub children-bounded : (p : Chosen) (b : Block) → sound p b ≡ true → Each (λ c. (c .x .index < 2 ^ 47) × (c .y .index < 2 ^ 47)) (childrenOf p b)
 children-bounded p b ok =
     each-also (ChildPlace p b) (λ c. (c .x .index < 2 ^ 47) × (c .y .index < 2 ^ 47))
     (λ c h. (ranged ordinaryFloor (c .x .rank) (c .x .index) (h .x .in-ranges) .bound, ranged ordinaryFloor (c .y .rank) (c .y .index) (h .y .in-ranges) .bound))

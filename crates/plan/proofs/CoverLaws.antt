@@ -14,7 +14,7 @@ use Rattle.image.specs.Painting.{pixelCell, everyOf, seenIf, allTrueSeen, someS
 use Rattle.image.proofs.PaintLaws.{painted-length}
 use Rattle.image.proofs.BlockLaws.{rectangle-ready, painted-pixel, every-pixel, pixels-every}
 use Rattle.queue.specs.declared.Block.{Block}
-use Rattle.decide.specs.declared.Picture.{Picture}
+use Rattle.decide.specs.declared.Chosen.{Chosen}
 use Rattle.decide.specs.Damage.{coveredCells, cellDamaged, damageSeen}
 use Rattle.plan.specs.Plan.{paintedUnder, allTrue}
 use Rattle.plan.specs.AtOnce.{isSeen, trueAsGiven}
@@ -30,7 +30,7 @@ Narrower c d = (px py : ℕ) → covers d px py ≡ true → covers c px py ≡ 
 abbrev pub Apart : Block → Block → Type 0
 Apart c d = (px py : ℕ) → covers d px py ≡ true → covers c px py ≡ false
 
-module _ (p : Picture) (c : Block) (l : List Cell) (enough : p .width * p .height ≤ length l) where
+module _ (p : Chosen) (c : Block) (l : List Cell) (enough : p .width * p .height ≤ length l) where
   -- all covered cells are True exactly if each covered pixel's is
   pub true-pixels : allTrue p c l ≡ true → (px py : ℕ) → px < p .width → py < p .height → covers c px py ≡ true → isMarked (pixelCell (p .width) (p .height) px py l) ≡ true
   unfolding allTrue
@@ -40,7 +40,7 @@ module _ (p : Picture) (c : Block) (l : List Cell) (enough : p .width * p .heigh
   unfolding allTrue
   pixels-true f = pixels-every (c .x) (c .y) (p .width) (p .height) l enough isMarked f
 
-module _ (p : Picture) (c d : Block) (l : List Cell) (enough : p .width * p .height ≤ length l) where
+module _ (p : Chosen) (c d : Block) (l : List Cell) (enough : p .width * p .height ≤ length l) where
   abbrev marked : List Cell
   marked = paintedUnder p c Op.Mark l
 
@@ -75,7 +75,7 @@ seen-if : (b : Bool) → isSeen (seenIf b) ≡ b
 seen-if true = refl
 seen-if false = refl
 
-module _ (p : Picture) (c : Block) (cells : List ℕ) (enough : p .width * p .height ≤ length cells) where
+module _ (p : Chosen) (c : Block) (cells : List ℕ) (enough : p .width * p .height ≤ length cells) where
   ready : pictureReady (p .width) (p .height) (rectangleOf (c .x) (c .y) (p .width) (p .height)) (length cells) ≡ true
   ready = rectangle-ready (c .x) (c .y) (p .width) (p .height) (length cells) ∙ le-leb (p .width * p .height) (length cells) enough
 

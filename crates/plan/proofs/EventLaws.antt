@@ -18,7 +18,7 @@ use Rattle.image.proofs.AtLaws.{mapAt-ext, mapAt-mapAt}
 use Rattle.image.proofs.RangeLaws.{cell-pixel, beyond-not-held, rectangle-in-picture, rectangle-covers}
 use Rattle.queue.specs.declared.Block.{Block}
 use Rattle.queue.proofs.RoundTrip.{CanQueue}
-use Rattle.decide.specs.declared.Picture.{Picture}
+use Rattle.decide.specs.declared.Chosen.{Chosen}
 use Rattle.plan.specs.declared.Planned.{Planned}
 use Rattle.decide.specs.declared.turn.Turned.{Turned}
 use Rattle.decide.specs.declared.turn.Turned.the-variants as T
@@ -89,7 +89,7 @@ module _ (turn : Block → Turned) where
       go (T.To d) = refl
       go T.Nowhere = refl
 
-module _ (p : Picture) (b : Block) (cs : List Block) (os : List Outcome) (vs : List ℕ) where
+module _ (p : Chosen) (b : Block) (cs : List Block) (os : List Outcome) (vs : List ℕ) where
   pub plan-marks : plannedMarks (planFrom p b cs os vs .at) ≡ markEvents cs os
   unfolding planFrom
   plan-marks =
@@ -106,14 +106,14 @@ module _ (p : Picture) (b : Block) (cs : List Block) (os : List Outcome) (vs : L
   plan-events = ap₂ _++_ plan-marks plan-turns
 
 -- with cells for all pixels a plan is made for the children
-pub planned-children : (p : Picture) (b : Block) (vs : List ℕ) (l : List Cell) → p .width * p .height ≤ length l
+pub planned-children : (p : Chosen) (b : Block) (vs : List ℕ) (l : List Cell) → p .width * p .height ≤ length l
     → planOf p b vs l ≡ planFrom p b (childrenOf p b) (outcomes p l (childrenOf p b) vs) vs
 unfolding planOf
 planned-children p b vs l h = rw (le-leb (p .width * p .height) (length l) h)
 
 -- HOW MUCH IT IS
 
-pub evaluations-few : (p : Picture) (l : List Cell) (cs : List Block) (vs : List ℕ) → evaluations (outcomes p l cs vs) ≤ 6 * length cs
+pub evaluations-few : (p : Chosen) (l : List Cell) (cs : List Block) (vs : List ℕ) → evaluations (outcomes p l cs vs) ≤ 6 * length cs
 unfolding evaluations outcomes
 evaluations-few p l [] vs = omega arith
 evaluations-few p l (c ∷ cs) [] = omega arith
@@ -122,7 +122,7 @@ evaluations-few p l (c ∷ cs) (v ∷ vs) =
     omega (arith, cost-of-child (c .x .rank) v (allTrue p c l), evaluations-few p (cond (isMarking o) (paintedUnder p c Op.Mark l) l) cs vs)
 
 -- a step costs 24 evaluations at most
-pub step-evaluations : (p : Picture) (b : Block) (l : List Cell) (vs : List ℕ) → evaluations (outcomes p l (childrenOf p b) vs) ≤ 24
+pub step-evaluations : (p : Chosen) (b : Block) (l : List Cell) (vs : List ℕ) → evaluations (outcomes p l (childrenOf p b) vs) ≤ 24
 step-evaluations p b l vs = omega (arith, evaluations-few p l (childrenOf p b) vs, children-few p b)
 
 queued-few : (turn : Block → Turned) (cs : List Block) (os : List Outcome) → length (queuedBy (turnEvents turn cs os)) ≤ length cs
@@ -138,7 +138,7 @@ queued-few turn (c ∷ cs) (o ∷ os) =
     go T.Nowhere h = omega arith
 
 -- and queues four blocks at most
-pub step-queues : (p : Picture) (b : Block) (os : List Outcome) → length (queuedBy (eventsFor p b (childrenOf p b) os)) ≤ 4
+pub step-queues : (p : Chosen) (b : Block) (os : List Outcome) → length (queuedBy (eventsFor p b (childrenOf p b) os)) ≤ 4
 unfolding eventsFor
 step-queues p b os =
     rw (marks-queue-none (childrenOf p b) os (turnEvents (turned p b (openCount os)) (childrenOf p b) os))
@@ -194,13 +194,13 @@ module _ (P Q : Block → Type 0) (turn : Block → Turned) (to : (c d : Block) 
       (λ e. one-queued c (turn c) refl (h .0) (turnEvents turn cs os) (each-queued cs os (h .1))) (λ e. each-queued cs os (h .1))
 
 -- a turned block covers what it covered
-turned-covers : (p : Picture) (c d : Block) → TurnsTo p c d → (px py : ℕ) → covers d px py ≡ covers c px py
+turned-covers : (p : Chosen) (c d : Block) → TurnsTo p c d → (px py : ℕ) → covers d px py ≡ covers c px py
 turned-covers p c d t px py = ap (λ (w : Block). covers w px py) (t .same)
 
-pub turned-narrower : (p : Picture) (b : Block) (n : ℕ) (c d : Block) → Narrower b c → turned p b n c ≡ T.To d → Narrower b d
+pub turned-narrower : (p : Chosen) (b : Block) (n : ℕ) (c d : Block) → Narrower b c → turned p b n c ≡ T.To d → Narrower b d
 turned-narrower p b n c d h e px py t = h px py (sym (turned-covers p c d (turns p b n c d e) px py) ∙ t)
 
-module _ (p : Picture) (b : Block) (ok : sound p b ≡ true) (os : List Outcome) where
+module _ (p : Chosen) (b : Block) (ok : sound p b ≡ true) (os : List Outcome) where
   abbrev turn : Block → Turned
   turn = turned p b (openCount os)
 
@@ -240,7 +240,7 @@ module _ {A : Type 0} (f : Block → A) (turn : Block → Turned) (same : (c d :
       by-test (λ l. Sublistᴰ (map f (queuedBy l)) (f c ∷ map f cs)) (isOpen o) (turnEvent (turn c) ∷ turnEvents turn cs os) (turnEvents turn cs os)
       (λ e. one-kept c (turn c) refl (turnEvents turn cs os) (map f cs) s) (λ e. Sublistᴰ·cons s)
 
-pub queued-sublist : {A : Type 0} (f : Block → A) (p : Picture) (b : Block) → ((c : Block) (d : ℕ) → f (turnedTo c d) ≡ f c) → (cs : List Block) (os : List Outcome)
+pub queued-sublist : {A : Type 0} (f : Block → A) (p : Chosen) (b : Block) → ((c : Block) (d : ℕ) → f (turnedTo c d) ≡ f c) → (cs : List Block) (os : List Outcome)
     → Sublistᴰ (map f (queuedBy (eventsFor p b cs os))) (map f cs)
 unfolding eventsFor
 queued-sublist f p b h cs os =
@@ -250,7 +250,7 @@ queued-sublist f p b h cs os =
 -- THE CELLS
 
 -- events one after the other
-pub cells-append : (p : Picture) (b : Block) (number new : ℕ) (es fs : List (Event Block)) (l : List Cell)
+pub cells-append : (p : Chosen) (b : Block) (number new : ℕ) (es fs : List (Event Block)) (l : List Cell)
     → cellsAfter p b number new (es ++ fs) l ≡ cellsAfter p b number (new + length (queuedBy es)) fs (cellsAfter p b number new es l)
 unfolding cellsAfter queuedBy
 cells-append p b number new [] fs l = rw (add-zero new)
@@ -261,7 +261,7 @@ cells-append p b number new (queues c ∷ es) fs l =
 cells-append p b number new (givesUp ∷ es) fs l = cells-append p b number new es fs (paintedUnder p b Op.GiveUp l)
 
 -- a block that covers all cells of another holds them
-holds-narrower : (p : Picture) (b c : Block) → Narrower b c → (i : ℕ) → holdsCell (p .width) (rectangleOf (c .x) (c .y) (p .width) (p .height)) i ≡ true
+holds-narrower : (p : Chosen) (b c : Block) → Narrower b c → (i : ℕ) → holdsCell (p .width) (rectangleOf (c .x) (c .y) (p .width) (p .height)) i ≡ true
     → holdsCell (p .width) (rectangleOf (b .x) (b .y) (p .width) (p .height)) i ≡ true
 holds-narrower p b c n i t = elim (decLt i (p .width * p .height)) [
   | yes k ↦ (let z = cell-pixel (p .width) (p .height) i k in
@@ -274,7 +274,7 @@ holds-narrower p b c n i t = elim (decLt i (p .width * p .height)) [
 ]
 
 -- giving up and naming siblings in either order leaves the same cells
-pub give-up-order : (p : Picture) (b c : Block) (number new : ℕ) (es : List (Event Block)) (l : List Cell) → Narrower b c
+pub give-up-order : (p : Chosen) (b c : Block) (number new : ℕ) (es : List (Event Block)) (l : List Cell) → Narrower b c
     → cellsAfter p b number new (givesUp ∷ queues c ∷ es) l ≡ cellsAfter p b number new (queues c ∷ givesUp ∷ es) l
 unfolding cellsAfter painted
 give-up-order p b c number new es l n =
@@ -296,14 +296,14 @@ give-up-order p b c number new es l n =
 -- SKIPPED
 
 -- where all cells of a block are True every child is skipped, so nothing is done
-true-skips : (p : Picture) (l : List Cell) (cs : List Block) (vs : List ℕ) → Each (λ c. allTrue p c l ≡ true) cs → (turn : Block → Turned)
+true-skips : (p : Chosen) (l : List Cell) (cs : List Block) (vs : List ℕ) → Each (λ c. allTrue p c l ≡ true) cs → (turn : Block → Turned)
     → (markEvents cs (outcomes p l cs vs) ≡ []) × (turnEvents turn cs (outcomes p l cs vs) ≡ [])
 unfolding outcomes markEvents turnEvents
 true-skips p l [] vs h turn = (refl, refl)
 true-skips p l (c ∷ cs) [] h turn = (refl, refl)
 true-skips p l (c ∷ cs) (v ∷ vs) h turn = rw (h .0) (true-skips p l cs vs (h .1) turn)
 
-pub all-true-nothing : (p : Picture) (b : Block) (l : List Cell) (vs : List ℕ) → sound p b ≡ true → p .width * p .height ≤ length l → allTrue p b l ≡ true
+pub all-true-nothing : (p : Chosen) (b : Block) (l : List Cell) (vs : List ℕ) → sound p b ≡ true → p .width * p .height ≤ length l → allTrue p b l ≡ true
     → eventsFor p b (childrenOf p b) (outcomes p l (childrenOf p b) vs) ≡ []
 unfolding eventsFor
 all-true-nothing p b l vs ok h t =

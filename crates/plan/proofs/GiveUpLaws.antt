@@ -13,7 +13,7 @@ use Rattle.image.specs.declared.PixelRange.{PixelRange}
 use Rattle.image.specs.Cell.{Cell}
 use Rattle.image.specs.Painting.{painted}
 use Rattle.queue.specs.declared.Block.{Block}
-use Rattle.decide.specs.declared.Picture.{Picture}
+use Rattle.decide.specs.declared.Chosen.{Chosen}
 use Rattle.decide.specs.declared.turn.Turned.{Turned}
 use Rattle.decide.specs.declared.turn.Turned.the-variants as T
 use Rattle.decide.specs.declared.verdict.Outcome.{Outcome}
@@ -32,17 +32,17 @@ use Rattle.plan.proofs.EventLaws.{each-queued, turned-narrower, cells-a
 -- THE CHILD'S OWN CELLS
 
 -- the other reading: an incomplete child that finds no direction gives up the cells that it covers itself
-abbrev ownTurn : Picture → ℕ → ℕ → Block → Turned → (ℕ → List Cell → List Cell) → List Cell → List Cell
+abbrev ownTurn : Chosen → ℕ → ℕ → Block → Turned → (ℕ → List Cell → List Cell) → List Cell → List Cell
 ownTurn p number new c (T.To d) rest l = rest (suc new) (paintedUnder p d (Op.Name number new) l)
 ownTurn p number new c T.Nowhere rest l = rest new (paintedUnder p c Op.GiveUp l)
 
-unfoldable pub cellsOwn : Picture → ℕ → ℕ → (Block → Turned) → List Block → List Outcome → List Cell → List Cell
+unfoldable pub cellsOwn : Chosen → ℕ → ℕ → (Block → Turned) → List Block → List Outcome → List Cell → List Cell
 cellsOwn p number new turn [] os l = l
 cellsOwn p number new turn (c ∷ cs) [] l = l
 cellsOwn p number new turn (c ∷ cs) (o ∷ os) l =
     cond (isOpen o) (ownTurn p number new c (turn c) (λ n m. cellsOwn p number n turn cs os m) l) (cellsOwn p number new turn cs os l)
 
-module _ (p : Picture) (b : Block) (n : ℕ) (ok : sound p b ≡ true) (number : ℕ) where
+module _ (p : Chosen) (b : Block) (n : ℕ) (ok : sound p b ≡ true) (number : ℕ) where
   -- one child, where the children after it leave the same cells by both readings
   own-turn : (new : ℕ) (c : Block) (cs : List Block) (os : List Outcome) (l : List Cell) → SameRectangle p b n ok c
       → ((k : ℕ) (m : List Cell) → cellsOwn p number k (turned p b n) cs os m ≡ cellsAfter p b number k (turnEvents (turned p b n) cs os) m)
@@ -62,7 +62,7 @@ module _ (p : Picture) (b : Block) (n : ℕ) (ok : sound p b ≡ true) (number :
       cases (isOpen o) (λ e. rw e (own-turn new c cs os l (h .0) (λ k m. own-turns k cs os m (h .1)) (turned p b n c) refl)) (λ e. rw e (own-turns new cs os l (h .1)))
 
 -- the cells that a step on a sound block leaves, whatever its children's outcomes, are those of the other reading
-pub give-up-own : (p : Picture) (b : Block) (number new : ℕ) (os : List Outcome) (l : List Cell) → sound p b ≡ true
+pub give-up-own : (p : Chosen) (b : Block) (number new : ℕ) (os : List Outcome) (l : List Cell) → sound p b ≡ true
     → (let cs = childrenOf p b in
     cellsAfter p b number new (eventsFor p b cs os) l ≡ cellsOwn p number new (turned p b (openCount os)) cs os (cellsAfter p b number new (markEvents cs os) l))
 unfolding eventsFor queuedBy
@@ -83,7 +83,7 @@ queuing [] es = es
 queuing (c ∷ cs) es = queues c ∷ queuing cs es
 
 -- giving up before all siblings that are queued, or after them
-pub give-up-last : (p : Picture) (b : Block) (number new : ℕ) (cs : List Block) (es : List (Event Block)) (l : List Cell) → Each (Narrower b) cs
+pub give-up-last : (p : Chosen) (b : Block) (number new : ℕ) (cs : List Block) (es : List (Event Block)) (l : List Cell) → Each (Narrower b) cs
     → cellsAfter p b number new (givesUp ∷ queuing cs es) l ≡ cellsAfter p b number new (queuing cs (givesUp ∷ es)) l
 unfolding cellsAfter
 give-up-last p b number new [] es l h = refl
@@ -101,7 +101,7 @@ givings (givesUp ∷ es) = givesUp ∷ givings es
 abbrev pub queuedFirst : List (Event Block) → List (Event Block)
 queuedFirst es = queuing (queuedBy es) (givings es)
 
-module _ (p : Picture) (b : Block) (number : ℕ) (turn : Block → Turned) (stays : (c d : Block) → Narrower b c → turn c ≡ T.To d → Narrower b d) where
+module _ (p : Chosen) (b : Block) (number : ℕ) (turn : Block → Turned) (stays : (c d : Block) → Narrower b c → turn c ≡ T.To d → Narrower b d) where
   -- one child, where the children after it leave the same cells in both orders
   last-turn : (new : ℕ) (cs : List Block) (os : List Outcome) (l : List Cell) → Each (Narrower b) (queuedBy (turnEvents turn cs os))
       → ((k : ℕ) (m : List Cell) → cellsAfter p b number k (turnEvents turn cs os) m ≡ cellsAfter p b number k (queuedFirst (turnEvents turn cs os)) m)
@@ -122,7 +122,7 @@ module _ (p : Picture) (b : Block) (number : ℕ) (turn : Block → Turned) (sta
       (λ e. rw e (turns-last new cs os l (h .1)))
 
 -- a step on a sound block may name the cells of all that it queues before it gives any up
-pub give-ups-last : (p : Picture) (b : Block) (number new : ℕ) (os : List Outcome) (l : List Cell) → sound p b ≡ true
+pub give-ups-last : (p : Chosen) (b : Block) (number new : ℕ) (os : List Outcome) (l : List Cell) → sound p b ≡ true
     → (let es = turnEvents (turned p b (openCount os)) (childrenOf p b) os in cellsAfter p b number new es l ≡ cellsAfter p b number new (queuedFirst es) l)
 give-ups-last p b number new os l ok =
     turns-last p b number (turned p b (openCount os)) (turned-narrower p b (openCount os)) new (childrenOf p b) os l

@@ -11,7 +11,7 @@ use Rattle.image.specs.Cell.{Cell, meanings, meaningOf}
 use Rattle.image.specs.Range.{rectangleOf}
 use Rattle.image.proofs.PaintLaws.{painted-length}
 use Rattle.queue.specs.declared.Block.{Block}
-use Rattle.decide.specs.declared.Picture.{Picture}
+use Rattle.decide.specs.declared.Chosen.{Chosen}
 use Rattle.decide.specs.declared.verdict.Outcome.{Outcome}
 use Rattle.decide.specs.Damage.{sound}
 use Rattle.decide.specs.Children.{childrenOf}
@@ -31,7 +31,7 @@ or-true : (a : Bool) → (a || true) ≡ true
 or-true true = refl
 or-true false = refl
 
-module _ (p : Picture) (cells : List ℕ) where
+module _ (p : Chosen) (cells : List ℕ) where
   -- what a child sees when its turn comes
   abbrev Sees : Bool → Bool → List Cell → Block → Type 0
   Sees same marked l c = allTrue p c l ≡ (trueAsGiven p c cells || (same && marked))
@@ -66,7 +66,7 @@ module _ (p : Picture) (cells : List ℕ) where
       (each-both (Beside same c) (Sees same marked l) (Sees same (marked || t) (after c t l)) (λ d b z. sees-on same marked t l c d h b z) cs (r .0) (s .1))))
 
 -- one after the other and all at once are the same
-pub at-once : (p : Picture) (b : Block) (cells vs : List ℕ) → sound p b ≡ true → p .width * p .height ≤ length cells
+pub at-once : (p : Chosen) (b : Block) (cells vs : List ℕ) → sound p b ≡ true → p .width * p .height ≤ length cells
     → outcomes p (meanings cells) (childrenOf p b) vs ≡ atOnce p (alike p b) cells false (childrenOf p b) vs
 at-once p b cells vs ok h =
     in-turn-from p cells (alike p b) false (meanings cells) (childrenOf p b) vs (rw (L.length-map cells meaningOf) h) (children-beside p b ok)

@@ -17,7 +17,7 @@ use Rattle.queue.specs.declared.Block.{Block}
 use Rattle.queue.specs.declared.directions.Direction.{Direction}
 use Rattle.queue.specs.declared.directions.DirectionAt.{DirectionAt}
 use Rattle.queue.specs.declared.directions.DirectionAt.the-variants as A
-use Rattle.decide.specs.declared.Picture.{Picture}
+use Rattle.decide.specs.declared.Chosen.{Chosen}
 use Rattle.decide.specs.declared.children.Children.{Children}
 use Rattle.plan.specs.declared.Fate.{Fate}
 use Rattle.plan.specs.declared.Fate.the-variants as F
@@ -37,13 +37,13 @@ use Rattle.decide.proofs.VerdictLaws.{cost-of-child}
 
 -- BY THE TESTS THAT THE CODE MAKES
 
-pub alike-as : (p : Picture) (b : Block) (a : DirectionAt) (d e : Direction) → a ≡ directionOf p b → a ≡ A.Along d → d ≡ e → alikeAlong (b .x .rank) (A.Along e) ≡ alike p b
+pub alike-as : (p : Chosen) (b : Block) (a : DirectionAt) (d e : Direction) → a ≡ directionOf p b → a ≡ A.Along d → d ≡ e → alikeAlong (b .x .rank) (A.Along e) ≡ alike p b
 alike-as p b a d e f g h = ap (alikeAlong (b .x .rank)) (sym (g ∙ ap A.Along h) ∙ f)
 
-pub alike-none : (p : Picture) (b : Block) (a : DirectionAt) → a ≡ directionOf p b → a ≡ A.Beyond → true ≡ alike p b
+pub alike-none : (p : Chosen) (b : Block) (a : DirectionAt) → a ≡ directionOf p b → a ≡ A.Beyond → true ≡ alike p b
 alike-none p b a f g = ap (alikeAlong (b .x .rank)) (sym g ∙ f)
 
-pub seen-as : (p : Picture) (c : Block) (cells : List ℕ) (r : PixelRange) (s v : Seen) → r ≡ rectangleOf (c .x) (c .y) (p .width) (p .height)
+pub seen-as : (p : Chosen) (c : Block) (cells : List ℕ) (r : PixelRange) (s v : Seen) → r ≡ rectangleOf (c .x) (c .y) (p .width) (p .height)
     → s ≡ allTrueSeen (p .width) (p .height) r cells → s ≡ v → isSeen v ≡ trueAsGiven p c cells
 unfolding trueAsGiven
 seen-as p c cells r s v e f g = ap isSeen (sym g ∙ f) ∙ rw e
@@ -60,20 +60,20 @@ pub noted-as : (j : Judged) (i rank v : ℕ) (o : Outcome) (f : Fate) (n e : ℕ
 unfolding judgedBy
 noted-as j i rank v o f n e m l p q r s t = rw (p, q, r, s, t)
 
-pub judged-as : (p : Picture) (same : Bool) (cells : List ℕ) (j : Judged) (i : ℕ) (c : Block) (v : ℕ) (t : Bool) (o : Outcome) (r : Judged)
+pub judged-as : (p : Chosen) (same : Bool) (cells : List ℕ) (j : Judged) (i : ℕ) (c : Block) (v : ℕ) (t : Bool) (o : Outcome) (r : Judged)
     → t ≡ trueAsGiven p c cells → o ≡ outcomeOf (c .x .rank) v (t || (same && j .marked)) → r ≡ judgedBy j i (c .x .rank) v o
     → r ≡ judgedBy j i (c .x .rank) v (outcomeAtOnce p same cells (j .marked) c v)
 judged-as p same cells j i c v t o r e f g = g ∙ rw (f, e)
 
-pub small-as : (p : Picture) (same : Bool) (cells : List ℕ) (j : Judged) (c : Block) (v : ℕ) (t : Bool) (o : Outcome)
+pub small-as : (p : Chosen) (same : Bool) (cells : List ℕ) (j : Judged) (c : Block) (v : ℕ) (t : Bool) (o : Outcome)
     → o ≡ outcomeOf (c .x .rank) v (t || (same && j .marked)) → costOf o ≤ 6
 small-as p same cells j c v t o e = rw e (cost-of-child (c .x .rank) v (t || (same && j .marked)))
 
-pub turned-found : (p : Picture) (start : ℕ) (c : Block) (f : Fate) (t : Turned) (d : Block) → f ≡ F.Queue → t ≡ turnedFound p start c → t ≡ T.To d
+pub turned-found : (p : Chosen) (start : ℕ) (c : Block) (f : Fate) (t : Turned) (d : Block) → f ≡ F.Queue → t ≡ turnedFound p start c → t ≡ T.To d
     → record { block = d; fate = F.Queue } ≡ turnedPlan p start c f
 turned-found p start c f t d e g h = rw e (ap (plannedTurn c) (sym h ∙ g))
 
-pub turned-lost : (p : Picture) (start : ℕ) (c : Block) (f : Fate) (t : Turned) → f ≡ F.Queue → t ≡ turnedFound p start c → t ≡ T.Nowhere
+pub turned-lost : (p : Chosen) (start : ℕ) (c : Block) (f : Fate) (t : Turned) → f ≡ F.Queue → t ≡ turnedFound p start c → t ≡ T.Nowhere
     → record { block = c; fate = F.GiveUp } ≡ turnedPlan p start c f
 turned-lost p start c f t e g h = rw e (ap (plannedTurn c) (sym h ∙ g))
 
@@ -92,13 +92,13 @@ queued-few q n i f e h = omega (arith, e, queued-one f)
 -- THE LOOP OVER THE VERDICTS
 
 -- the children from the i-th on judged, each with its verdict
-unfoldable pub judgedFrom : Picture → Bool → List ℕ → Judged → ℕ → List Block → List ℕ → Judged
+unfoldable pub judgedFrom : Chosen → Bool → List ℕ → Judged → ℕ → List Block → List ℕ → Judged
 judgedFrom p same cells j i [] vs = j
 judgedFrom p same cells j i (c ∷ cs) [] = j
 judgedFrom p same cells j i (c ∷ cs) (v ∷ vs) =
     judgedFrom p same cells (judgedBy j i (c .x .rank) v (outcomeAtOnce p same cells (j .marked) c v)) (suc i) cs vs
 
-module _ (p : Picture) (same : Bool) (cells : List ℕ) (k : Children) (vs : List ℕ) where
+module _ (p : Chosen) (same : Bool) (cells : List ℕ) (k : Children) (vs : List ℕ) where
   -- what the judging from child i on makes
   abbrev pub judgedOn : Judged → ℕ → Judged
   judgedOn j i = judgedFrom p same cells j i (drop i (blocksIn k)) (drop i vs)
@@ -131,7 +131,7 @@ module _ (p : Picture) (same : Bool) (cells : List ℕ) (k : Children) (vs : Lis
         none [] = unfold judgedFrom in refl
         none (c ∷ l) = unfold judgedFrom in refl
 
-pub judged-few : (p : Picture) (same : Bool) (cells : List ℕ) (j j′ : Judged) (i : ℕ) (c : Block) (v : ℕ) → j′ ≡ judgedBy j i (c .x .rank) v (outcomeAtOnce p same cells (j .marked) c v)
+pub judged-few : (p : Chosen) (same : Bool) (cells : List ℕ) (j j′ : Judged) (i : ℕ) (c : Block) (v : ℕ) → j′ ≡ judgedBy j i (c .x .rank) v (outcomeAtOnce p same cells (j .marked) c v)
     → j .evaluations ≤ 6 * i → j .incomplete ≤ i → (j′ .evaluations ≤ 6 * (i + 1)) × (j′ .incomplete ≤ i + 1)
 unfolding judgedBy
 judged-few p same cells j j′ i c v e h k =
@@ -140,7 +140,7 @@ judged-few p same cells j j′ i c v e h k =
 
 -- THE LOOP OVER THE DIRECTIONS
 
-module _ (p : Picture) (start : ℕ) (cs : List Block) (es : List Noted) where
+module _ (p : Chosen) (start : ℕ) (cs : List Block) (es : List Noted) where
   -- what the turning from child i on makes
   abbrev pub turnedOn : Plan → ℕ → Plan
   turnedOn r i = turnedFrom p start r i (drop i cs) (drop i es)
@@ -155,6 +155,6 @@ module _ (p : Picture) (start : ℕ) (cs : List Block) (es : List Noted) where
   unfolding turnedFrom
   turn-end r i h = let e = drop-of-length-le cs {i = i} h in rw e
 
-pub turned-as : (p : Picture) (b : Block) (k : Children) (j : Judged) (start : ℕ) (r₀ r : Plan) → start ≡ startOf p b (j .incomplete) → r₀ ≡ unturned b (k .count) (j .evaluations) (j .legal)
+pub turned-as : (p : Chosen) (b : Block) (k : Children) (j : Judged) (start : ℕ) (r₀ r : Plan) → start ≡ startOf p b (j .incomplete) → r₀ ≡ unturned b (k .count) (j .evaluations) (j .legal)
     → r ≡ turnedFrom p start r₀ 0 (k .at) (j .at) → r ≡ turnedFrom p (startOf p b (j .incomplete)) (unturned b (k .count) (j .evaluations) (j .legal)) 0 (k .at) (j .at)
 turned-as p b k j start r₀ r e f g = g ∙ rw (e, f)

@@ -21,7 +21,7 @@ use Rattle.queue.specs.declared.directions.Direction.the-variants as D
 use Rattle.queue.specs.declared.directions.DirectionAt.{DirectionAt}
 use Rattle.queue.specs.declared.directions.DirectionAt.the-variants as A
 use Rattle.queue.specs.Block.{isInteger, parameterOf, withParameter}
-use Rattle.decide.specs.declared.Picture.{Picture}
+use Rattle.decide.specs.declared.Chosen.{Chosen}
 use Rattle.decide.specs.Damage.{sound, directionOf}
 use Rattle.decide.specs.Children.{movedTo, quartersOf, beginsInside, keptInside, childrenXY, childrenCut, childrenAlong, childrenOf}
 use Rattle.plan.specs.AtOnce.{alikeAlong, alike}
@@ -91,13 +91,13 @@ apart-y c d h r n px py e =
 
 -- THE LISTS
 
-pub each-kept : (p : Picture) (P : Block → Type 0) (l : List Block) → Each (λ c. beginsInside p c ≡ true → P c) l → Each P (keptInside p l)
+pub each-kept : (p : Chosen) (P : Block → Type 0) (l : List Block) → Each (λ c. beginsInside p c ≡ true → P c) l → Each P (keptInside p l)
 unfolding keptInside
 each-kept p P [] h = tt
 each-kept p P (c ∷ l) h =
     by-test (Each P) (beginsInside p c) (c ∷ keptInside p l) (keptInside p l) (λ e. (h .0 e, each-kept p P l (h .1))) (λ e. each-kept p P l (h .1))
 
-pairs-kept : (p : Picture) (R : Block → Block → Type 0) (l : List Block) → Pairs R l → Pairs R (keptInside p l)
+pairs-kept : (p : Chosen) (R : Block → Block → Type 0) (l : List Block) → Pairs R l → Pairs R (keptInside p l)
 unfolding keptInside
 pairs-kept p R [] h = tt
 pairs-kept p R (c ∷ l) h =
@@ -179,7 +179,7 @@ abbrev pub Beside : Bool → Block → Block → Type 0
 Beside true c d = Narrower c d
 Beside false c d = Apart c d
 
-module _ (p : Picture) (b : Block) (ok : sound p b ≡ true) where
+module _ (p : Chosen) (b : Block) (ok : sound p b ≡ true) where
   xy-lies : aboveFloor ordinaryFloor (b .x .rank) ≡ true → Each (Lies b) (childrenXY p b)
   unfolding childrenXY
   xy-lies up =

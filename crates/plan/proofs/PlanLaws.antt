@@ -13,7 +13,7 @@ use Rattle.base.proofs.Test.{cases, by-test, cond-yes, cond-no}
 use Rattle.base.specs.Event.{Event, marks, queuedBy}
 use Rattle.image.specs.Cell.{meanings, meaningOf}
 use Rattle.queue.specs.declared.Block.{Block}
-use Rattle.decide.specs.declared.Picture.{Picture}
+use Rattle.decide.specs.declared.Chosen.{Chosen}
 use Rattle.decide.specs.declared.children.Children.{Children}
 use Rattle.plan.specs.declared.Fate.the-variants as F
 use Rattle.plan.specs.declared.Judged.{Judged}
@@ -47,7 +47,7 @@ pub record Closed (r j : Judged) (i : ℕ) (cs : List Block) (os : List Outcome)
   pub evaluated : r .evaluations ≡ j .evaluations + evaluations os
   pub legal : r .legal ≡ (j .legal && allLegal cs vs)
 
-module _ (p : Picture) (same : Bool) (cells : List ℕ) where
+module _ (p : Chosen) (same : Bool) (cells : List ℕ) where
   pub judged-closed : (j : Judged) (i : ℕ) (cs : List Block) (vs : List ℕ) → Closed (judgedFrom p same cells j i cs vs) j i cs (atOnce p same cells (j .marked) cs vs) vs
   unfolding judgedFrom judgedBy atOnce noted openCount evaluations allLegal
   judged-closed j i [] vs = record { at = refl; incomplete = sym (add-zero (j .incomplete)); evaluated = sym (add-zero (j .evaluations)); legal = sym (and-true (j .legal)) }
@@ -69,7 +69,7 @@ unfoldable pub queuedCount : List Planned → ℕ
 queuedCount [] = 0
 queuedCount (e ∷ es) = queuedOnes (e .fate) + queuedCount es
 
-module _ (p : Picture) (start : ℕ) where
+module _ (p : Chosen) (start : ℕ) where
   -- the children, each by what was noted of it
   unfoldable pub turnedAll : List Block → List Noted → List Planned
   turnedAll [] es = []
@@ -100,7 +100,7 @@ sets-whole [] (v ∷ vs) e = absurd (omega arith)
 sets-whole (a ∷ l) [] e = absurd (omega arith)
 sets-whole (a ∷ l) (v ∷ vs) e = sets-cons v l 0 vs ∙ ap (λ r. v ∷ r) (sets-whole l vs (omega arith))
 
-module _ (p : Picture) (b : Block) (n : ℕ) where
+module _ (p : Chosen) (b : Block) (n : ℕ) where
   entry-by : (c : Block) (o : Outcome) → turnedPlan p (startOf p b n) c (fateOf o) ≡ plannedBy (turned p b n) c o
   unfolding turned
   entry-by c O.Skipped = refl
@@ -159,7 +159,7 @@ same-plan : (a a′ : List Planned) (c q q′ e e′ : ℕ) (l l′ : Bool) → 
     → _≡_ {A = Plan} (record { at = a; count = c; queued = q; evaluations = e; legal = l }) (record { at = a′; count = c; queued = q′; evaluations = e′; legal = l′ })
 same-plan a a′ c q q′ e e′ l l′ h i j k = rw (h, i, j, k)
 
-module _ (p : Picture) (b : Block) (same : Bool) (cells : List ℕ) (k : Children) (vs : List ℕ) where
+module _ (p : Chosen) (b : Block) (same : Bool) (cells : List ℕ) (k : Children) (vs : List ℕ) where
   abbrev judged : Judged
   judged = judgedFrom p same cells unjudged 0 (blocksIn k) vs
 
@@ -210,7 +210,7 @@ turns-behind turn [] (o ∷ os) ds h = absurd (omega arith)
 turns-behind turn (c ∷ cs) [] ds h = refl
 turns-behind turn (c ∷ cs) (o ∷ os) ds h = rw (turns-behind turn cs os ds (omega arith))
 
-once-few : (p : Picture) (same : Bool) (cells : List ℕ) (marked : Bool) (cs : List Block) (vs : List ℕ) → length (atOnce p same cells marked cs vs) ≤ length cs
+once-few : (p : Chosen) (same : Bool) (cells : List ℕ) (marked : Bool) (cs : List Block) (vs : List ℕ) → length (atOnce p same cells marked cs vs) ≤ length cs
 unfolding atOnce
 once-few p same cells marked [] vs = omega arith
 once-few p same cells marked (c ∷ cs) [] = omega arith
@@ -219,7 +219,7 @@ once-few p same cells marked (c ∷ cs) (v ∷ vs) = omega (arith, once-few p sa
 pub blocks-listed : (b : Block) (cs : List Block) → blocksIn (listed b cs) ≡ cs
 blocks-listed b cs = take-at cs (replicate (4 - length cs) b) (length cs) refl
 
-plan-by-listed : (p : Picture) (b : Block) (cs : List Block) (os : List Outcome) (vs : List ℕ) → length os ≤ length cs → planBy p b (listed b cs) os vs ≡ planFrom p b cs os vs
+plan-by-listed : (p : Chosen) (b : Block) (cs : List Block) (os : List Outcome) (vs : List ℕ) → length os ≤ length cs → planBy p b (listed b cs) os vs ≡ planFrom p b cs os vs
 unfolding planBy planFrom eventsFor
 plan-by-listed p b cs os vs h =
     let turn = turned p b (openCount os) in
@@ -232,7 +232,7 @@ plan-by-listed p b cs os vs h =
 
 -- THE PLAN IS THAT OF ONE CHILD AFTER THE OTHER
 
-module _ (p : Picture) (b : Block) (vs cells : List ℕ) where
+module _ (p : Chosen) (b : Block) (vs cells : List ℕ) where
   abbrev kids : List Block
   kids = cond (enoughCells p (length cells)) (childrenOf p b) []
 
@@ -265,7 +265,7 @@ module _ (p : Picture) (b : Block) (vs cells : List ℕ) where
   pub plan-listed : enoughCells p (length cells) ≡ true → planListed p b (listed b (childrenOf p b)) vs cells ≡ planOf p b vs (meanings cells)
   plan-listed e = ap (λ (l : List Block). planListed p b (listed b l) vs cells) (sym (cond-yes (enoughCells p (length cells)) (childrenOf p b) [] e)) ∙ plan-of
 
-module _ (p : Picture) (b : Block) (vs cells : List ℕ) (k : Children) (s : Bool) (j : Judged) (g : j ≡ judgedFrom p s cells unjudged 0 (blocksIn k) vs) where
+module _ (p : Chosen) (b : Block) (vs cells : List ℕ) (k : Children) (s : Bool) (j : Judged) (g : j ≡ judgedFrom p s cells unjudged 0 (blocksIn k) vs) where
   pub four-noted : length (j .at) ≡ 4
   four-noted = rw g (four-judged p b s cells k vs)
 

@@ -22,7 +22,7 @@ use Rattle.queue.specs.declared.directions.DirectionAt.the-variants as A
 use Rattle.queue.specs.Directions.{inUse, usedOf, directions, parameters, directionAt, ones}
 use Rattle.queue.proofs.DirectionLaws.{used-length, at-first}
 use Rattle.queue.proofs.RoundTrip.{CanQueue}
-use Rattle.decide.specs.declared.Picture.{Picture}
+use Rattle.decide.specs.declared.Chosen.{Chosen}
 use Rattle.decide.specs.declared.turn.Found.{Found}
 use Rattle.decide.specs.declared.turn.Found.the-variants as F
 use Rattle.decide.specs.declared.turn.Turned.the-variants as T
@@ -49,11 +49,11 @@ search-splits ds c (suc n) at k e = go (subdivisibleAlong c (directionAt ds (at 
     go false f ih g = ih g
 
 -- c is queued as d: the same but for the direction byte, which names a direction in use that it can be cut along
-pub record TurnsTo (p : Picture) (c d : Block) : Type 0 where
+pub record TurnsTo (p : Chosen) (c d : Block) : Type 0 where
   pub same : d ≡ turnedTo c (d .dir)
   pub splits : subdivisibleAlong c (directionOf p d) ≡ true
 
-pub turns : (p : Picture) (b : Block) (n : ℕ) (c d : Block) → turned p b n c ≡ T.To d → TurnsTo p c d
+pub turns : (p : Chosen) (b : Block) (n : ℕ) (c d : Block) → turned p b n c ≡ T.To d → TurnsTo p c d
 unfolding turned
 turns p b n c d e = go (searched p c (startOf p b n)) refl e
   where
@@ -65,7 +65,7 @@ turns p b n c d e = go (searched p c (startOf p b n)) refl e
     go F.Nothing g h = let z : _≡_ {A = ℕ} 0 1 = cc in absurd (omega arith)
 
 -- so its direction is right
-way-right : (p : Picture) (c d : Block) (a : DirectionAt) → d .x ≡ c .x → subdivisibleAlong c a ≡ true → directionRight p d a ≡ true
+way-right : (p : Chosen) (c d : Block) (a : DirectionAt) → d .x ≡ c .x → subdivisibleAlong c a ≡ true → directionRight p d a ≡ true
 way-right p c d (A.Along D.XY) e s = rw e s
 way-right p c d (A.Along D.M) e s = refl
 way-right p c d (A.Along D.N) e s = refl
@@ -74,7 +74,7 @@ way-right p c d (A.Along D.T) e s = refl
 way-right p c d A.Beyond e s = absurd (false≢true s)
 
 -- and it is undamaged, in the same picture
-pub turned-undamaged : (p : Picture) (b c d : Block) → ChildPlace p b c → LegalParameters c → TurnsTo p c d → undamaged p d ≡ true
+pub turned-undamaged : (p : Chosen) (b c d : Block) → ChildPlace p b c → LegalParameters c → TurnsTo p c d → undamaged p d ≡ true
 turned-undamaged p b c d h l t =
     let s = t .same in
     let x : d .x ≡ c .x = ap (λ (w : Block). w .x) s in
@@ -87,11 +87,11 @@ turned-undamaged p b c d h l t =
       parameters = rw s record { m = l .m; n = l .n; theta = l .theta; t = l .t };
     }
 
-pub turned-sound : (p : Picture) (b c d : Block) → sound p b ≡ true → ChildPlace p b c → Fine (p .set) c → TurnsTo p c d → sound p d ≡ true
+pub turned-sound : (p : Chosen) (b c d : Block) → sound p b ≡ true → ChildPlace p b c → Fine (p .set) c → TurnsTo p c d → sound p d ≡ true
 turned-sound p b c d ok h f t = sound-from p b d ok (turned-undamaged p b c d h (fine-parameters (p .set) c f) t)
 
 -- it can be queued as the child could
-pub turned-can-queue : (p : Picture) (c d : Block) → CanQueue (p .set) c → TurnsTo p c d → CanQueue (p .set) d
+pub turned-can-queue : (p : Chosen) (c d : Block) → CanQueue (p .set) c → TurnsTo p c d → CanQueue (p .set) d
 turned-can-queue p c d q t = rw (t .same) record { x = q .x; y = q .y; fine = fine }
   where
     fine : Fine (p .set) (turnedTo c (d .dir))
@@ -135,7 +135,7 @@ round at t n h =
     ]
 
 -- a child that finds no direction can be cut along none of those in use
-pub nowhere-none : (p : Picture) (b : Block) (n : ℕ) (c : Block) → turned p b n c ≡ T.Nowhere → (t : ℕ) → t < length (directions (p .set)) → subdivisibleAlong c (directionAt (directions (p .set)) t) ≡ false
+pub nowhere-none : (p : Chosen) (b : Block) (n : ℕ) (c : Block) → turned p b n c ≡ T.Nowhere → (t : ℕ) → t < length (directions (p .set)) → subdivisibleAlong c (directionAt (directions (p .set)) t) ≡ false
 unfolding turned
 nowhere-none p b n c e t h = go (searched p c (startOf p b n)) refl e
   where
@@ -146,7 +146,7 @@ nowhere-none p b n c e t h = go (searched p c (startOf p b n)) refl e
         rw (r .2) at (search-tried (directions (p .set)) c (length (directions (p .set))) (startOf p b n) f (r .0) (r .1))
 
 -- so where x or y is in use it is on the floor
-pub nowhere-floor : (p : Picture) (b : Block) (n : ℕ) (c : Block) → inUse (p .set) D.XY ≡ true → turned p b n c ≡ T.Nowhere → c .x .rank ≤ 16
+pub nowhere-floor : (p : Chosen) (b : Block) (n : ℕ) (c : Block) → inUse (p .set) D.XY ≡ true → turned p b n c ≡ T.Nowhere → c .x .rank ≤ 16
 unfolding directions
 nowhere-floor p b n c u e =
     let o : 1 ≡ ones (inUse (p .set) D.XY) = rw u in
@@ -166,7 +166,7 @@ quarter-rectangle b c width height q h k =
     let f : c .y .rank - 48 ≡ b .y .rank - 48 = omega arith in
     rw (x, y, e, f)
 
-module _ (p : Picture) (b : Block) (n : ℕ) (ok : sound p b ≡ true) where
+module _ (p : Chosen) (b : Block) (n : ℕ) (ok : sound p b ≡ true) where
   -- a child without a direction has its parent's rectangle
   abbrev pub SameRectangle : Block → Type 0
   SameRectangle c = turned p b n c ≡ T.Nowhere → rectangleOf (c .x) (c .y) (p .width) (p .height) ≡ rectangleOf (b .x) (b .y) (p .width) (p .height)

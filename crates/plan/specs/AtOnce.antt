@@ -14,7 +14,7 @@ use Rattle.queue.specs.declared.Block.{Block}
 use Rattle.queue.specs.declared.directions.Direction.the-variants as D
 use Rattle.queue.specs.declared.directions.DirectionAt.{DirectionAt}
 use Rattle.queue.specs.declared.directions.DirectionAt.the-variants as A
-use Rattle.decide.specs.declared.Picture.{Picture}
+use Rattle.decide.specs.declared.Chosen.{Chosen}
 use Rattle.decide.specs.declared.children.Children.{Children}
 use Rattle.plan.specs.declared.Fate.{Fate}
 use Rattle.plan.specs.declared.Fate.the-variants as F
@@ -38,7 +38,7 @@ alikeAlong rank (A.Along D.Theta) = true
 alikeAlong rank (A.Along D.T) = true
 alikeAlong rank A.Beyond = true
 
-abbrev pub alike : Picture → Block → Bool
+abbrev pub alike : Chosen → Block → Bool
 alike p b = alikeAlong (b .x .rank) (directionOf p b)
 
 -- is every cell True that the child covers? Where the cells are fewer than the pixels nothing is seen
@@ -47,15 +47,15 @@ isSeen S.Yes = true
 isSeen S.No = false
 isSeen S.Outside = false
 
-unfoldable pub trueAsGiven : Picture → Block → List ℕ → Bool
+unfoldable pub trueAsGiven : Chosen → Block → List ℕ → Bool
 trueAsGiven p c cells = isSeen (allTrueSeen (p .width) (p .height) (rectangleOf (c .x) (c .y) (p .width) (p .height)) cells)
 
 -- the outcome of a child, where `marked` says that a child before it marks
-abbrev pub outcomeAtOnce : Picture → Bool → List ℕ → Bool → Block → ℕ → Outcome
+abbrev pub outcomeAtOnce : Chosen → Bool → List ℕ → Bool → Block → ℕ → Outcome
 outcomeAtOnce p same cells marked c v = outcomeOf (c .x .rank) v (trueAsGiven p c cells || (same && marked))
 
 -- the outcomes of the children in order
-unfoldable pub atOnce : Picture → Bool → List ℕ → Bool → List Block → List ℕ → List Outcome
+unfoldable pub atOnce : Chosen → Bool → List ℕ → Bool → List Block → List ℕ → List Outcome
 atOnce p same cells marked [] vs = []
 atOnce p same cells marked (c ∷ cs) [] = []
 atOnce p same cells marked (c ∷ cs) (v ∷ vs) =
@@ -66,7 +66,7 @@ abbrev pub blocksIn : Children → List Block
 blocksIn k = take (k .count) (k .at)
 
 -- the plan of the children in an array, by the outcomes of those that are counted; nothing is done about what stands behind them
-unfoldable pub planBy : Picture → Block → Children → List Outcome → List ℕ → Plan
+unfoldable pub planBy : Chosen → Block → Children → List Outcome → List ℕ → Plan
 planBy p b k os vs = record {
   at = plannedAll (turned p b (openCount os)) (k .at) os;
   count = k .count;
@@ -77,7 +77,7 @@ planBy p b k os vs = record {
 
 -- the plan of children that are listed already. The law `plan-listed` says that it is the step's plan where they are all children of the block
 -- and there is a cell for each pixel
-unfoldable pub planListed : Picture → Block → Children → List ℕ → List ℕ → Plan
+unfoldable pub planListed : Chosen → Block → Children → List ℕ → List ℕ → Plan
 planListed p b k vs cells = planBy p b k (atOnce p (alike p b) cells false (blocksIn k) vs) vs
 
 -- THE SAME, CHILD BY CHILD
@@ -109,7 +109,7 @@ judgedBy j i rank v o = record {
 }
 
 -- a child that is to be queued turned, in a search from `start` on, any other as it is
-abbrev pub turnedPlan : Picture → ℕ → Block → Fate → Planned
+abbrev pub turnedPlan : Chosen → ℕ → Block → Fate → Planned
 turnedPlan p start c F.Nothing = record { block = c; fate = F.Nothing }
 turnedPlan p start c F.Mark = record { block = c; fate = F.Mark }
 turnedPlan p start c F.Queue = plannedTurn c (turnedFound p start c)
@@ -131,7 +131,7 @@ unfoldable pub turnedAt : Plan → ℕ → Planned → Plan
 turnedAt r i e = record { at = set (r .at) i e; count = r .count; queued = r .queued + queuedOnes (e .fate); evaluations = r .evaluations; legal = r .legal }
 
 -- the children from the i-th on turned, each by what was noted of it
-unfoldable pub turnedFrom : Picture → ℕ → Plan → ℕ → List Block → List Noted → Plan
+unfoldable pub turnedFrom : Chosen → ℕ → Plan → ℕ → List Block → List Noted → Plan
 turnedFrom p start r i [] es = r
 turnedFrom p start r i (c ∷ cs) [] = r
 turnedFrom p start r i (c ∷ cs) (e ∷ es) = turnedFrom p start (turnedAt r i (turnedPlan p start c (e .fate))) (suc i) cs es

@@ -11,7 +11,7 @@ use Rattle.image.specs.Cell.{Cell, isMarked}
 use Rattle.image.specs.Range.{rectangleOf}
 use Rattle.image.specs.Painting.{painted, everyOf}
 use Rattle.queue.specs.declared.Block.{Block}
-use Rattle.decide.specs.declared.Picture.{Picture}
+use Rattle.decide.specs.declared.Chosen.{Chosen}
 use Rattle.plan.specs.declared.Fate.{Fate}
 use Rattle.plan.specs.declared.Fate.the-variants as F
 use Rattle.plan.specs.declared.Plan.{Plan}
@@ -26,15 +26,15 @@ use Rattle.decide.specs.Verdict.{allLegal, outcomeOf, costOf, isMarking, isOpen
 use Rattle.decide.specs.Turn.{turned}
 
 -- the cells after something is done to those that a block covers
-abbrev pub paintedUnder : Picture → Block → Op → List Cell → List Cell
+abbrev pub paintedUnder : Chosen → Block → Op → List Cell → List Cell
 paintedUnder p b op l = painted (p .width) (rectangleOf (b .x) (b .y) (p .width) (p .height)) op l
 
 -- every cell that a block covers is True
-unfoldable pub allTrue : Picture → Block → List Cell → Bool
+unfoldable pub allTrue : Chosen → Block → List Cell → Bool
 allTrue p c l = everyOf isMarked (coveredCells p c l)
 
 -- one child after the other: each meets the cells as the ones before it left them
-unfoldable pub outcomes : Picture → List Cell → List Block → List ℕ → List Outcome
+unfoldable pub outcomes : Chosen → List Cell → List Block → List ℕ → List Outcome
 outcomes p l [] vs = []
 outcomes p l (c ∷ cs) [] = []
 outcomes p l (c ∷ cs) (v ∷ vs) =
@@ -69,11 +69,11 @@ turnEvents turn (c ∷ cs) [] = []
 turnEvents turn (c ∷ cs) (o ∷ os) = cond (isOpen o) (turnEvent (turn c) ∷ turnEvents turn cs os) (turnEvents turn cs os)
 
 -- what the step on block b does, by its children's outcomes
-unfoldable pub eventsFor : Picture → Block → List Block → List Outcome → List (Event Block)
+unfoldable pub eventsFor : Chosen → Block → List Block → List Outcome → List (Event Block)
 eventsFor p b cs os = markEvents cs os ++ turnEvents (turned p b (openCount os)) cs os
 
 -- the cells after events: `number` is that of the taken block b, `new` that of the next block to be queued
-unfoldable pub cellsAfter : Picture → Block → ℕ → ℕ → List (Event Block) → List Cell → List Cell
+unfoldable pub cellsAfter : Chosen → Block → ℕ → ℕ → List (Event Block) → List Cell → List Cell
 cellsAfter p b number new [] l = l
 cellsAfter p b number new (marks c ∷ es) l = cellsAfter p b number new es (paintedUnder p c Op.Mark l)
 cellsAfter p b number new (queues c ∷ es) l = cellsAfter p b number (suc new) es (paintedUnder p c (Op.Name number new) l)
@@ -109,7 +109,7 @@ abbrev pub plannedList : Block → List Planned → List Planned
 plannedList b l = l ++ replicate (4 - length l) (untouched b)
 
 -- the plan of the children cs with the outcomes os and the verdicts vs
-unfoldable pub planFrom : Picture → Block → List Block → List Outcome → List ℕ → Plan
+unfoldable pub planFrom : Chosen → Block → List Block → List Outcome → List ℕ → Plan
 planFrom p b cs os vs = record {
   at = plannedList b (plannedAll (turned p b (openCount os)) cs os);
   count = length cs;
@@ -119,15 +119,15 @@ planFrom p b cs os vs = record {
 }
 
 -- there is a cell for each pixel
-abbrev pub enoughCells : Picture → ℕ → Bool
+abbrev pub enoughCells : Chosen → ℕ → Bool
 enoughCells p n = leb (p .width * p .height) n
 
 -- the children that a step on these cells plans for: none where cells are fewer than pixels
-abbrev pub plannedFor : Picture → Block → List Cell → List Block
+abbrev pub plannedFor : Chosen → Block → List Cell → List Block
 plannedFor p b l = cond (enoughCells p (length l)) (childrenOf p b) []
 
 -- the plan of the step on block b with these verdicts
-unfoldable pub planOf : Picture → Block → List ℕ → List Cell → Plan
+unfoldable pub planOf : Chosen → Block → List ℕ → List Cell → Plan
 planOf p b vs l = planFrom p b (plannedFor p b l) (outcomes p l (plannedFor p b l) vs) vs
 
 -- WHAT A STEP CARRIES OUT OF A PLAN: the marks in order, then the rest in order

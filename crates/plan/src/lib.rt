@@ -6,7 +6,7 @@ ghost use lib.ListN.{length};
 ghost use Rattle.plan.specs.AtOnce.{alike, trueAsGiven, outcomeAtOnce, planListed, fateOf, openOnes, judgedBy, unjudged, turnedPlan, queuedOnes, turnedFrom, unturned};
 ghost use Rattle.decide.specs.Turn.{startOf};
 ghost use Rattle.decide.specs.Verdict.{costOf, isMarking};
-use decide::Picture;
+use decide::Chosen;
 use decide::children::Children;
 use decide::turn::Turned;
 use decide::turn::start_of;
@@ -68,7 +68,7 @@ struct Judged {
 
 // The plan for children that are listed already: the step's plan, if they are all children of the block and each pixel has a cell.
 // Each is judged by its verdict, in order.
-pub fn plan_children(p: Picture, b: Block, kids: Children, verdicts: &[u8], cells: &[u64]) -> Plan
+pub fn plan_children(p: Chosen, b: Block, kids: Children, verdicts: &[u8], cells: &[u64]) -> Plan
     ensures { λ r. ⌜ r ≡ planListed p b kids (now (verdicts .entry)) (now (cells .entry)) ⌝ }
 {
     let same = is_alike(p, b);
@@ -82,7 +82,7 @@ pub fn plan_children(p: Picture, b: Block, kids: Children, verdicts: &[u8], cell
 }
 
 // Whether all children cover the same pixels: quarters above level 0 share none.
-fn is_alike(p: Picture, b: Block) -> bool
+fn is_alike(p: Chosen, b: Block) -> bool
     ensures { λ r. ⌜ r ≡ alike p b ⌝ }
 {
     let x = b.x;
@@ -121,15 +121,7 @@ fn judge_none() -> Judged
 }
 
 // A child with its verdict. It is skipped also where a child before it marked the same pixels.
-fn judge_child(
-    p: Picture,
-    same: bool,
-    j: Judged,
-    i: usize,
-    c: Block,
-    v: u8,
-    cells: &[u64],
-) -> Judged
+fn judge_child(p: Chosen, same: bool, j: Judged, i: usize, c: Block, v: u8, cells: &[u64]) -> Judged
     requires { ⌜ (i < 4) × (j .evaluations ≤ 18) × (j .incomplete ≤ 3) ⌝ }
     ensures { λ r. ⌜ r ≡ judgedBy j i (c .x .rank) v (outcomeAtOnce p same (now (cells .entry)) (j .marked) c v) ⌝ }
 {
@@ -139,7 +131,7 @@ fn judge_child(
 }
 
 // Whether every cell that the child covers is True.
-fn is_all_true(p: Picture, c: Block, cells: &[u64]) -> bool
+fn is_all_true(p: Chosen, c: Block, cells: &[u64]) -> bool
     ensures { λ r. ⌜ r ≡ trueAsGiven p c (now (cells .entry)) ⌝ }
 {
     let r = image::rectangle(c.x, c.y, p.width, p.height);
@@ -205,7 +197,7 @@ fn is_marking(o: Outcome) -> bool
 }
 
 // Each child that is to be queued looks for its direction.
-fn turn_children(p: Picture, b: Block, kids: Children, j: Judged) -> Plan
+fn turn_children(p: Chosen, b: Block, kids: Children, j: Judged) -> Plan
     requires { ⌜ (length (kids .at) ≡ 4) × (length (j .at) ≡ 4) ⌝ }
     ensures { λ r. ⌜ r ≡ turnedFrom p (startOf p b (j .incomplete)) (unturned b (kids .count) (j .evaluations) (j .legal)) 0 (kids .at) (j .at) ⌝ }
 {
@@ -241,7 +233,7 @@ fn plan_none(block: Block, count: usize, evaluations: u64, legal: bool) -> Plan
 }
 
 // A child that is to be queued with the direction that it finds, any other as it is.
-fn turn_child(p: Picture, start: u16, c: Block, fate: Fate) -> Planned
+fn turn_child(p: Chosen, start: u16, c: Block, fate: Fate) -> Planned
     ensures { λ r. ⌜ r ≡ turnedPlan p start c fate ⌝ }
 {
     match fate {

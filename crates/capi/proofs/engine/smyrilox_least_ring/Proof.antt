@@ -11,7 +11,7 @@ tell-needed-requires : tie.Need-tell-needed-requires
 tell-needed-requires c κs = tt
 
 returns : tie.Need-returns
-returns c = c .tell-needed .ensures ∙ ap neededTold (c .before .least-ring .ensures)
+returns c = c .tell-needed .ensures ∙ ap neededTold (c .before .least-ring .ensures .0)
 
 pub smyrilox-least-ring-spec : {M : Type 1} → statement M
 smyrilox-least-ring-spec = tie.close (tie.spec least-ring-requires tell-needed-requires returns)

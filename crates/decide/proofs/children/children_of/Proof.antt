@@ -6,8 +6,8 @@ use Rattle.queue.specs.declared.directions.DirectionAt.the-variants as A
 use Rattle.decide.proofs.children.children_of.Statement.{statement}
 use Rattle.decide.proofs.children.children_of.Tie as tie
 
-is-legal-picture-requires : tie.Need-is-legal-picture-requires
-is-legal-picture-requires c κs = tt
+is-legal-chosen-requires : tie.Need-is-legal-chosen-requires
+is-legal-chosen-requires c κs = tt
 
 is-undamaged-requires : tie.Need-is-undamaged-requires
 is-undamaged-requires c κs = tt
@@ -19,7 +19,7 @@ enum-known-d : tie.Need-enum-known-d
 enum-known-d c = search needs
 
 children-along-requires : tie.Need-children-along-requires
-children-along-requires c κs = (rw (← (c .before .before .before .before .before .before .is-legal-picture .ensures), ← (c .before .before .before .before .before .is-undamaged .ensures)) (c .before .before .before .before .if1 .taken), sym (c .before .before .before .direction-at .ensures) ∙ (c .before .d .given .1))
+children-along-requires c κs = (rw (← (c .before .before .before .before .before .before .is-legal-chosen .ensures), ← (c .before .before .before .before .before .is-undamaged .ensures)) (c .before .before .before .before .if1 .taken), sym (c .before .before .before .direction-at .ensures) ∙ (c .before .d .given .1))
 
 enum-told : tie.Need-enum-told
 enum-told c = search needs
@@ -28,22 +28,22 @@ list-one-requires : tie.Need-list-one-requires
 list-one-requires c κs = tt
 
 returns : tie.Need-returns
-returns c = children-sound (c .before .before .before .before .before .before .before .before .args .p) (c .before .before .before .before .before .before .before .before .args .b) (A.Along (c .before .before .d .given .0 .0)) (c .children-along .result) (rw (← (c .before .before .before .before .before .before .before .is-legal-picture .ensures), ← (c .before .before .before .before .before .before .is-undamaged .ensures)) (c .before .before .before .before .before .if1 .taken)) (sym (c .before .before .d .given .1) ∙ (c .before .before .before .before .direction-at .ensures)) (c .children-along .ensures)
+returns c = children-sound (c .before .before .before .before .before .before .before .before .args .p) (c .before .before .before .before .before .before .before .before .args .b) (A.Along (c .before .before .d .given .0 .0)) (c .children-along .result) (rw (← (c .before .before .before .before .before .before .before .is-legal-chosen .ensures), ← (c .before .before .before .before .before .before .is-undamaged .ensures)) (c .before .before .before .before .before .if1 .taken)) (sym (c .before .before .d .given .1) ∙ (c .before .before .before .before .direction-at .ensures)) (c .children-along .ensures)
 
 returns-2 : tie.Need-returns-2
-returns-2 c = children-sound (c .before .before .before .before .before .before .before .args .p) (c .before .before .before .before .before .before .before .args .b) A.Beyond (c .list-one .result) (rw (← (c .before .before .before .before .before .before .is-legal-picture .ensures), ← (c .before .before .before .before .before .is-undamaged .ensures)) (c .before .before .before .before .if1 .taken)) (sym (c .before .enum-told .given .1) ∙ (c .before .before .before .direction-at .ensures)) (c .list-one .ensures)
+returns-2 c = children-sound (c .before .before .before .before .before .before .before .args .p) (c .before .before .before .before .before .before .before .args .b) A.Beyond (c .list-one .result) (rw (← (c .before .before .before .before .before .before .is-legal-chosen .ensures), ← (c .before .before .before .before .before .is-undamaged .ensures)) (c .before .before .before .before .if1 .taken)) (sym (c .before .enum-told .given .1) ∙ (c .before .before .before .direction-at .ensures)) (c .list-one .ensures)
 
 no-child-requires : tie.Need-no-child-requires
 no-child-requires c κs = tt
 
 returns-3 : tie.Need-returns-3
-returns-3 c = children-none (c .before .before .before .before .args .p) (c .before .before .before .before .args .b) (c .no-child .result) (rw (← (c .before .before .before .is-legal-picture .ensures), ← (c .before .before .is-undamaged .ensures)) (c .before .if1 .left)) (c .no-child .ensures)
+returns-3 c = children-none (c .before .before .before .before .args .p) (c .before .before .before .before .args .b) (c .no-child .result) (rw (← (c .before .before .before .is-legal-chosen .ensures), ← (c .before .before .is-undamaged .ensures)) (c .before .if1 .left)) (c .no-child .ensures)
 
 pub children-of-spec : {M : Type 1} → statement M
 children-of-spec =
     tie.close
     (tie.spec
-    is-legal-picture-requires
+    is-legal-chosen-requires
     is-undamaged-requires
     direction-at-requires
     enum-known-d

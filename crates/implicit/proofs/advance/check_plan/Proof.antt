@@ -30,10 +30,10 @@ size-of-requires : tie.Need-size-of-requires
 size-of-requires c κs = c .before .before .before .before .before .before .before .pre .3
 
 returns-4 : tie.Need-returns-4
-returns-4 c = plan-full (c .before .before .before .before .before .before .before .before .before .args .s) (c .before .before .before .before .before .before .before .before .before .args .len) (c .before .before .before .before .before .before .before .before .before .args .used) (c .before .before .before .before .before .before .before .before .before .args .plan) (c .before .before .before .before .before .before .before .if1 .left) (c .before .before .before .before .before .if2 .left) (c .before .before .before .before .before .before .before .before .before .pre .2) (c .before .size-of .result) (c .before .size-of .ensures ∙ ap (λ (l : Last). sizeOf (c .before .before .before .before .before .before .before .before .before .args .s .picture .set) l (c .before .before .before .before .before .before .before .before .before .args .plan .at)) (c .before .before .put-last .ensures)) (c .if4 .taken)
+returns-4 c = plan-full (c .before .before .before .before .before .before .before .before .before .args .s) (c .before .before .before .before .before .before .before .before .before .args .len) (c .before .before .before .before .before .before .before .before .before .args .used) (c .before .before .before .before .before .before .before .before .before .args .plan) (c .before .before .before .before .before .before .before .if1 .left) (c .before .before .before .before .before .if2 .left) (c .before .before .before .before .before .before .before .before .before .pre .2) (c .before .size-of .result) (c .before .size-of .ensures ∙ ap (λ (l : Last). sizeOf (c .before .before .before .before .before .before .before .before .before .args .s .chosen .set) l (c .before .before .before .before .before .before .before .before .before .args .plan .at)) (c .before .before .put-last .ensures)) (c .if4 .taken)
 
 returns-5 : tie.Need-returns-5
-returns-5 c = plan-passed (c .before .before .before .before .before .before .before .before .before .args .s) (c .before .before .before .before .before .before .before .before .before .args .len) (c .before .before .before .before .before .before .before .before .before .args .used) (c .before .before .before .before .before .before .before .before .before .args .plan) (c .before .before .before .before .before .before .before .if1 .left) (c .before .before .before .before .before .if2 .left) (c .before .before .before .before .before .before .before .before .before .pre .2) (c .before .size-of .result) (c .before .size-of .ensures ∙ ap (λ (l : Last). sizeOf (c .before .before .before .before .before .before .before .before .before .args .s .picture .set) l (c .before .before .before .before .before .before .before .before .before .args .plan .at)) (c .before .before .put-last .ensures)) (c .if4 .left)
+returns-5 c = plan-passed (c .before .before .before .before .before .before .before .before .before .args .s) (c .before .before .before .before .before .before .before .before .before .args .len) (c .before .before .before .before .before .before .before .before .before .args .used) (c .before .before .before .before .before .before .before .before .before .args .plan) (c .before .before .before .before .before .before .before .if1 .left) (c .before .before .before .before .before .if2 .left) (c .before .before .before .before .before .before .before .before .before .pre .2) (c .before .size-of .result) (c .before .size-of .ensures ∙ ap (λ (l : Last). sizeOf (c .before .before .before .before .before .before .before .before .before .args .s .chosen .set) l (c .before .before .before .before .before .before .before .before .before .args .plan .at)) (c .before .before .put-last .ensures)) (c .if4 .left)
 
 pub check-plan-spec : {M : Type 1} → statement M
 check-plan-spec =

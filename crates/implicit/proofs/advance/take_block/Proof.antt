@@ -2,7 +2,7 @@
 use mathlib.Core.Path.{ap}
 use denote.Ref.{now}
 use Rattle.decide.specs.declared.children.Children.{Children}
-use Rattle.implicit.proofs.RecordLaws.{sound-picture}
+use Rattle.implicit.proofs.RecordLaws.{sound-chosen}
 use Rattle.implicit.proofs.StepLaws.{block-passed, block-fits, block-refused, block-judged}
 use borrow.Author.Needs.{needs}
 use Rattle.implicit.proofs.advance.take_block.Statement.{statement}
@@ -12,7 +12,7 @@ children-of-requires : tie.Need-children-of-requires
 children-of-requires c κs = search needs
 
 check-block-requires : tie.Need-check-block-requires
-check-block-requires c κs = (c .before .before .before .before .before .before .before .pre .cells-enough, sound-picture _ _ (c .before .before .before .before .before .before .before .pre .sound-record), ap (λ (k : Children). k .count) (c .before .children-of .ensures))
+check-block-requires c κs = (c .before .before .before .before .before .before .before .pre .cells-enough, sound-chosen _ _ (c .before .before .before .before .before .before .before .pre .sound-record), ap (λ (k : Children). k .count) (c .before .children-of .ensures))
 
 enum-known-why : tie.Need-enum-known-why
 enum-known-why c = search needs

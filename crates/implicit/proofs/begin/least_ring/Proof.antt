@@ -1,7 +1,7 @@
 -- `begin::least_ring` meets its contract, test by test. Assumes nothing.
 use mathlib.Core.Path.{sym, _∙_}
+use native.Mathlib.Omega.{arith}
 use Rattle.queue.proofs.QueueAnswers.{granted}
-use Rattle.implicit.specs.Setup.{pictureOf}
 use Rattle.implicit.proofs.SetupLawsRefusal.{least-side, least-parameter, least-bytes}
 use Rattle.implicit.proofs.begin.least_ring.Statement.{statement}
 use Rattle.implicit.proofs.begin.least_ring.Tie as tie
@@ -16,7 +16,8 @@ returns : tie.Need-returns
 returns c =
     let h = c .before in
     let a = h .before .before .args in
-    least-side (pictureOf (a .width) (a .height) (a .set)) (a .ranges) (h .before .is-legal-side .result) (h .is-legal-side2 .result) (h .before .is-legal-side .ensures) (h .is-legal-side2 .ensures) (c .if1 .taken)
+    let w = h .before .is-legal-side in
+    (least-side (a .chosen) (a .ranges) (w .result) (h .is-legal-side2 .result) (w .ensures) (h .is-legal-side2 .ensures) (c .if1 .taken), omega arith)
 
 are-ranges-legal-requires : tie.Need-are-ranges-legal-requires
 are-ranges-legal-requires c κs = tt
@@ -27,8 +28,11 @@ returns-2 c =
     let s = l .before in
     let h = s .before in
     let a = h .before .before .args in
-    least-parameter (pictureOf (a .width) (a .height) (a .set)) (a .ranges) (h .before .is-legal-side .result) (h .is-legal-side2 .result) (h .before .is-legal-side .ensures) (h .is-legal-side2 .ensures) (s .if1 .left)
-    (l .are-ranges-legal .result) (l .are-ranges-legal .ensures) (c .if2 .taken)
+    let w = h .before .is-legal-side in (
+      least-parameter (a .chosen) (a .ranges) (w .result) (h .is-legal-side2 .result) (w .ensures) (h .is-legal-side2 .ensures) (s .if1 .left)
+          (l .are-ranges-legal .result) (l .are-ranges-legal .ensures) (c .if2 .taken),
+      omega arith,
+    )
 
 measure-first-requires : tie.Need-measure-first-requires
 measure-first-requires c κs = sym (c .before .are-ranges-legal .ensures) ∙ granted _ (c .if2 .left)
@@ -39,8 +43,11 @@ returns-3 c =
     let s = l .before in
     let h = s .before in
     let a = h .before .before .args in
-    least-bytes (pictureOf (a .width) (a .height) (a .set)) (a .ranges) (h .before .is-legal-side .result) (h .is-legal-side2 .result) (h .before .is-legal-side .ensures) (h .is-legal-side2 .ensures) (s .if1 .left)
-    (l .are-ranges-legal .result) (l .are-ranges-legal .ensures) (c .before .if2 .left) (c .measure-first .result) (c .measure-first .ensures)
+    let w = h .before .is-legal-side in (
+      least-bytes (a .chosen) (a .ranges) (w .result) (h .is-legal-side2 .result) (w .ensures) (h .is-legal-side2 .ensures) (s .if1 .left)
+          (l .are-ranges-legal .result) (l .are-ranges-legal .ensures) (c .before .if2 .left) (c .measure-first .result) (c .measure-first .ensures .0),
+      c .measure-first .ensures .1,
+    )
 
 pub least-ring-spec : {M : Type 1} → statement M
 least-ring-spec =

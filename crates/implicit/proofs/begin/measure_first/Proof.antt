@@ -85,8 +85,12 @@ returns c =
     let l = c .before in
     let n = l .before .before in
     let f = n .before in
-    measure-end (f .before .args .p .set) (productList (f .product-of .result)) (l .loop .i) (l .loop .k) (omega (arith, count-is (f .product-of .result), n .product-count .ensures .0)) (l .loop .inv .1)
-    ∙ ap length (product-bytes (f .before .args .p) (f .before .args .ranges) (f .product-of .result) (f .product-of .ensures) (f .before .pre))
+    let k = f .product-of .result in
+    let a = f .before .args in (
+      measure-end (a .p .set) (productList k) (l .loop .i) (l .loop .k) (omega (arith, count-is k, n .product-count .ensures .0)) (l .loop .inv .1)
+          ∙ ap length (product-bytes (a .p) (a .ranges) k (f .product-of .ensures) (f .before .pre)),
+      omega (arith, l .loop .inv .0, l .loop .inv .1 .few, n .product-count .ensures .1),
+    )
 
 pub measure-first-spec : {M : Type 1} → statement M
 measure-first-spec =

@@ -58,7 +58,7 @@ returns-4 c =
     let h = s .before in
     let a = h .before .before .args in
     refused-room (a .p) (a .ranges) (a .len) (a .count) (h .before .is-legal-side .result) (h .is-legal-side2 .result) (h .before .is-legal-side .ensures) (h .is-legal-side2 .ensures) (s .if1 .left) (l .before .if2 .left)
-    (l .are-ranges-legal .result) (l .are-ranges-legal .ensures) (m .before .if3 .left) (m .measure-first .result) (m .measure-first .ensures) (c .if4 .taken)
+    (l .are-ranges-legal .result) (l .are-ranges-legal .ensures) (m .before .if3 .left) (m .measure-first .result) (m .measure-first .ensures .0) (c .if4 .taken)
 
 returns-5 : tie.Need-returns-5
 returns-5 c =
@@ -68,7 +68,7 @@ returns-5 c =
     let h = s .before in
     let a = h .before .before .args in
     not-refused (a .p) (a .ranges) (a .len) (a .count) (h .before .is-legal-side .result) (h .is-legal-side2 .result) (h .before .is-legal-side .ensures) (h .is-legal-side2 .ensures) (s .if1 .left) (l .before .if2 .left)
-    (l .are-ranges-legal .result) (l .are-ranges-legal .ensures) (m .before .if3 .left) (m .measure-first .result) (m .measure-first .ensures) (c .if4 .left)
+    (l .are-ranges-legal .result) (l .are-ranges-legal .ensures) (m .before .if3 .left) (m .measure-first .result) (m .measure-first .ensures .0) (c .if4 .left)
 
 pub refuse-spec : {M : Type 1} → statement M
 refuse-spec =

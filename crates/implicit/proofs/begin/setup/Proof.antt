@@ -1,7 +1,7 @@
 -- `begin::setup` meets its contract. Assumes nothing.
 use mathlib.Core.Path.{sym, _∙_}
 use borrow.Author.Needs.{needs}
-use Rattle.implicit.specs.Setup.{pictureOf}
+use Rattle.implicit.specs.Setup.{cleared}
 use Rattle.implicit.proofs.SetupLawsStart.{answer-ready, ring-ready, cells-ready, answer-refused, ring-refused, cells-refused}
 use Rattle.implicit.proofs.begin.setup.Statement.{statement}
 use Rattle.implicit.proofs.begin.setup.Tie as tie
@@ -30,7 +30,7 @@ returns c =
     let t = b .before .before .before in
     let f = t .before .before in
     let a = f .before .before .before .args in
-    let p = pictureOf (a .width) (a .height) (a .set) in
+    let p = cleared (a .chosen) in
     let e = t .enum-told .given .1 in (
       answer-ready p (a .ranges) (a .ring .now) (a .cells .now) (f .refuse .result) (f .refuse .ensures) (b .begin .result) e (b .begin .ensures .0),
       (
@@ -44,7 +44,7 @@ returns-2 c =
     let g = c .before .why .given in
     let f = c .before .before .before in
     let a = f .before .before .before .args in
-    let p = pictureOf (a .width) (a .height) (a .set) in (
+    let p = cleared (a .chosen) in (
       answer-refused p (a .ranges) (a .ring .now) (a .cells .now) (f .refuse .result) (f .refuse .ensures) (g .0 .0) (g .1),
       (
         ring-refused p (a .ranges) (a .ring .now) (a .cells .now) (f .refuse .result) (f .refuse .ensures) (g .0 .0) (g .1),

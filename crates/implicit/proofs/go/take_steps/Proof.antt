@@ -12,7 +12,7 @@ use Rattle.implicit.proofs.go.take_steps.Statement.{statement}
 use Rattle.implicit.proofs.go.take_steps.Tie as tie
 
 abbrev Inv-loop : tie.InvT-loop
-Inv-loop ring₀ cells₀ tape budget p₀ ring cells p = Bounded budget tape p × (length ring ≡ length ring₀) × (length cells ≡ length cells₀) × (leb (pixelCount (p .state .picture)) (length cells) ≡ true) × (wholeRun budget p ring cells tape ≡ wholeRun budget p₀ ring₀ cells₀ tape) × SoundByUse (length ring) (p .state)
+Inv-loop ring₀ cells₀ tape budget p₀ ring cells p = Bounded budget tape p × (length ring ≡ length ring₀) × (length cells ≡ length cells₀) × (leb (pixelCount (p .state .chosen)) (length cells) ≡ true) × (wholeRun budget p ring cells tape ≡ wholeRun budget p₀ ring₀ cells₀ tape) × SoundByUse (length ring) (p .state)
 
 abbrev μ-loop : tie.MeasureT-loop
 μ-loop ring₀ cells₀ tape budget p₀ ring cells p = budget - p .steps + cond (p .going) 1 0

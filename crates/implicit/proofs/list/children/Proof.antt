@@ -2,7 +2,7 @@
 use mathlib.Core.Path.{sym, _∙_}
 use denote.Ref.{now}
 use Rattle.queue.proofs.QueueAnswers.{granted}
-use Rattle.implicit.proofs.RecordLaws.{sound-picture}
+use Rattle.implicit.proofs.RecordLaws.{sound-chosen}
 use Rattle.implicit.proofs.StepLawsCode.{list-damaged, list-empty, list-some}
 use borrow.Author.Needs.{needs}
 use Rattle.implicit.proofs.list.children.Statement.{statement}
@@ -24,7 +24,7 @@ returns-2 : tie.Need-returns-2
 returns-2 c = list-empty (c .before .before .before .before .before .before .args .s) (now (c .before .before .before .before .before .before .args .ring)) (c .before .before .before .before .is-sound .result) (c .before .before .before .before .is-sound .ensures) (c .refuse2 .result) (c .before .before .before .if1 .left) (c .before .if2 .taken) (c .refuse2 .ensures)
 
 list-front-requires : tie.Need-list-front-requires
-list-front-requires c κs = sound-picture _ (c .before .before .before .before .before .args .s) (sym (c .before .before .before .is-sound .ensures) ∙ granted _ (c .before .before .if1 .left))
+list-front-requires c κs = sound-chosen _ (c .before .before .before .before .before .args .s) (sym (c .before .before .before .is-sound .ensures) ∙ granted _ (c .before .before .if1 .left))
 
 returns-3 : tie.Need-returns-3
 returns-3 c = list-some (c .before .before .before .before .before .before .args .s) (now (c .before .before .before .before .before .before .args .ring)) (c .before .before .before .before .is-sound .result) (c .before .before .before .before .is-sound .ensures) (c .list-front .result) (c .before .before .before .if1 .left) (c .before .if2 .left) (c .list-front .ensures)

@@ -3,8 +3,8 @@ use Rattle.implicit.proofs.RecordLaws.{sound-record-as}
 use Rattle.implicit.proofs.record.is_sound.Statement.{statement}
 use Rattle.implicit.proofs.record.is_sound.Tie as tie
 
-is-legal-picture-requires : tie.Need-is-legal-picture-requires
-is-legal-picture-requires c κs = tt
+is-legal-chosen-requires : tie.Need-is-legal-chosen-requires
+is-legal-chosen-requires c κs = tt
 
 has-sound-counts-requires : tie.Need-has-sound-counts-requires
 has-sound-counts-requires c κs = tt
@@ -24,7 +24,7 @@ is-sound-last-requires-2 c κs = tt
 returns : tie.Need-returns
 returns c =
     let a = c .before .before .before .before .before .before .args in
-    let p = c .before .before .before .before .before .is-legal-picture in
+    let p = c .before .before .before .before .before .is-legal-chosen in
     let n = c .before .before .before .before .has-sound-counts in
     let r = c .before .before .before .has-sound-ring in
     let u = c .before .before .has-sound-use in
@@ -37,7 +37,7 @@ pub is-sound-spec : {M : Type 1} → statement M
 is-sound-spec =
     tie.close
     (tie.spec
-    is-legal-picture-requires
+    is-legal-chosen-requires
     has-sound-counts-requires
     has-sound-ring-requires
     has-sound-use-requires

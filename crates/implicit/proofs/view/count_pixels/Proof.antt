@@ -23,13 +23,13 @@ enum-known-t c = search needs
 
 -- what was counted
 counted : (c : tie.After-count) → let a = c .before .before .before .before .args in
-    c .count .result ≡ tallyAnswer (a .s .picture .width) (a .s .picture .height) (wholePicture (a .s .picture .width) (a .s .picture .height)) (a .s .taken) (a .cells .now)
+    c .count .result ≡ tallyAnswer (a .s .chosen .width) (a .s .chosen .height) (wholePicture (a .s .chosen .width) (a .s .chosen .height)) (a .s .taken) (a .cells .now)
 counted c =
     let a = c .before .before .before .before .args in
-    c .count .ensures ∙ ap (λ (r : PixelRange). tallyAnswer (a .s .picture .width) (a .s .picture .height) r (a .s .taken) (a .cells .now)) (c .before .whole .ensures)
+    c .count .ensures ∙ ap (λ (r : PixelRange). tallyAnswer (a .s .chosen .width) (a .s .chosen .height) r (a .s .taken) (a .cells .now)) (c .before .whole .ensures)
 
 told : (c : tie.After-known-told) → let a = c .before .before .before .before .before .before .before .args in
-    c .before .t .given .0 .0 ≡ tallied (a .s .taken) (pixelCells (a .s .picture) (a .cells .now))
+    c .before .t .given .0 .0 ≡ tallied (a .s .taken) (pixelCells (a .s .chosen) (a .cells .now))
 told c =
     let n = c .before .before .before in
     let b = n .before .before .before .before in
@@ -38,7 +38,7 @@ told c =
 with-share-requires : tie.Need-with-share-requires
 with-share-requires c κs =
     let b = c .before .before .before .before .before .before .before in
-    (b .pre .0, settled-few (b .args .s .picture) (b .args .s .taken) (b .args .cells .now) (c .before .t .given .0 .0) (b .pre .1) (told c))
+    (b .pre .0, settled-few (b .args .s .chosen) (b .args .s .taken) (b .args .cells .now) (c .before .t .given .0 .0) (b .pre .1) (told c))
 
 enum-told : tie.Need-enum-told
 enum-told c = search needs

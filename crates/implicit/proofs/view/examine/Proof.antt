@@ -25,15 +25,15 @@ returns-2 : tie.Need-returns-2
 returns-2 c =
     let o = c .before .before in
     let a = o .before .before .before .args in
-    let k : length (a .cells .now) < pixelCount (a .s .picture) = omega (arith, c .if2 .taken, o .before .pixel-count .ensures) in
+    let k : length (a .cells .now) < pixelCount (a .s .chosen) = omega (arith, c .if2 .taken, o .before .pixel-count .ensures) in
     sym (refused-cells (a .s) (a .cells .now) (a .room) (sym (o .is-sound .ensures) ∙ not-false _ (c .before .if1 .left)) k)
 
 returns-3 : tie.Need-returns-3
 returns-3 c =
     let o = c .before .before .before in
     let a = o .before .before .before .args in
-    let k : pixelCount (a .s .picture) ≤ length (a .cells .now) = omega (arith, c .before .if2 .left, o .before .pixel-count .ensures) in
-    let m : a .room < pixelCount (a .s .picture) = omega (arith, c .if3 .taken, o .before .pixel-count .ensures) in
+    let k : pixelCount (a .s .chosen) ≤ length (a .cells .now) = omega (arith, c .before .if2 .left, o .before .pixel-count .ensures) in
+    let m : a .room < pixelCount (a .s .chosen) = omega (arith, c .if3 .taken, o .before .pixel-count .ensures) in
     sym (refused-room (a .s) (a .cells .now) (a .room) (sym (o .is-sound .ensures) ∙ not-false _ (c .before .before .if1 .left)) k m)
 
 are-fine-requires : tie.Need-are-fine-requires

@@ -1,8 +1,8 @@
--- `begin::choose` meets its contract. Assumes nothing.
+-- `begin::pick` meets its contract. Assumes nothing.
 use native.Mathlib.Nat.{mod-lt}
-use Rattle.implicit.proofs.SetupLawsProduct.{chosen-made}
-use Rattle.implicit.proofs.begin.choose.Statement.{statement}
-use Rattle.implicit.proofs.begin.choose.Tie as tie
+use Rattle.implicit.proofs.SetupLawsProduct.{picked-made}
+use Rattle.implicit.proofs.begin.pick.Statement.{statement}
+use Rattle.implicit.proofs.begin.pick.Tie as tie
 
 piece-count-requires : tie.Need-piece-count-requires
 piece-count-requires c κs = tt
@@ -23,8 +23,8 @@ returns : tie.Need-returns
 returns c =
     let n = c .before .before .before .before in
     let a = n .before .args in
-    chosen-made (a .k) (a .d) (a .c) (n .piece-count .result) (c .before .before .piece-at .result) (c .before .with-parameter .result) (n .piece-count .ensures .0) (c .before .before .piece-at .ensures)
+    picked-made (a .k) (a .d) (a .c) (n .piece-count .result) (c .before .before .piece-at .result) (c .before .with-parameter .result) (n .piece-count .ensures .0) (c .before .before .piece-at .ensures)
     (c .before .with-parameter .ensures)
 
-pub choose-spec : {M : Type 1} → statement M
-choose-spec = tie.close (tie.spec piece-count-requires rem-piece-at piece-at-requires with-parameter-requires div-t7 returns)
+pub pick-spec : {M : Type 1} → statement M
+pick-spec = tie.close (tie.spec piece-count-requires rem-piece-at piece-at-requires with-parameter-requires div-t7 returns)
