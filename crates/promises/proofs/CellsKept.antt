@@ -20,7 +20,7 @@ use Rattle.image.proofs.CellLaws.{meaning-code, meaning-proper, done-proper}
 use Rattle.image.proofs.PaintLaws.{painted-length}
 use Rattle.image.proofs.BlockLaws.{painted-pixel}
 use Rattle.queue.specs.declared.Block.{Block}
-use Rattle.decide.specs.declared.Picture.{Picture}
+use Rattle.decide.specs.declared.Chosen.{Chosen}
 use Rattle.plan.specs.Plan.{paintedUnder, cellsAfter}
 use Rattle.plan.proofs.Each.{Each}
 use Rattle.plan.proofs.CoverLaws.{covers}
@@ -55,7 +55,7 @@ unfolding painted
 coded-painted width r op l k h = coded-at (holdsCell width r) op 0 l k h
 
 -- all cells have codes after the events, if all new numbers are numbers of blocks
-pub coded-after : (p : Picture) (b : Block) (number new : ℕ) (es : List (Event Block)) (l : List Cell) → new + length (queuedBy es) ≤ 2 ^ 32 → Each Coded l
+pub coded-after : (p : Chosen) (b : Block) (number new : ℕ) (es : List (Event Block)) (l : List Cell) → new + length (queuedBy es) ≤ 2 ^ 32 → Each Coded l
     → Each Coded (cellsAfter p b number new es l)
 unfolding cellsAfter queuedBy nameable
 coded-after p b number new [] l k h = h
@@ -70,10 +70,10 @@ coded-after p b number new (givesUp ∷ es) l k h =
 -- A PIXEL'S CELL
 
 -- the cells of the picture are still there
-pub still-enough : (p : Picture) (c : Block) (op : Op) (l : List Cell) → p .width * p .height ≤ length l → p .width * p .height ≤ length (paintedUnder p c op l)
+pub still-enough : (p : Chosen) (c : Block) (op : Op) (l : List Cell) → p .width * p .height ≤ length l → p .width * p .height ≤ length (paintedUnder p c op l)
 still-enough p c op l h = rw (painted-length (p .width) (rectangleOf (c .x) (c .y) (p .width) (p .height)) op l) h
 
-module _ (p : Picture) (c : Block) (even : Level c) (op : Op) (l : List Cell) (enough : p .width * p .height ≤ length l) (q : Pixel p) where
+module _ (p : Chosen) (c : Block) (even : Level c) (op : Op) (l : List Cell) (enough : p .width * p .height ≤ length l) (q : Pixel p) where
   -- what stands there once something is done to what a block covers
   standing-painted : standingAt p (paintedUnder p c op l) q ≡ cond (coversIn p c q) (standing (doneTo op (pixelCell (p .width) (p .height) (q .x) (q .y) l))) (standingAt p l q)
   unfolding standingAt
@@ -86,7 +86,7 @@ module _ (p : Picture) (c : Block) (even : Level c) (op : Op) (l : List Cell) (e
       through true = refl
       through false = refl
 
-module _ (p : Picture) (b : Block) (even : Level b) (number : ℕ) (q : Pixel p) where
+module _ (p : Chosen) (b : Block) (even : Level b) (number : ℕ) (q : Pixel p) where
   -- THE RULE OF THE EVENTS
   pub standing-after : (new : ℕ) (es : List (Event Block)) (l : List Cell) → p .width * p .height ≤ length l → EachEvent Level es
       → standingAt p (cellsAfter p b number new es l) q ≡ cellAfter (coversIn p) false number b new es q (standingAt p l q)
@@ -124,10 +124,10 @@ done-whole O.GiveUp c h = refl
 done-whole (O.Fill to) c h = refl
 
 -- every pixel's cell is undamaged
-abbrev pub PixelsWhole : Picture → List Cell → Type 0
+abbrev pub PixelsWhole : Chosen → List Cell → Type 0
 PixelsWhole p l = (x y : ℕ) → x < p .width → y < p .height → Whole (pixelCell (p .width) (p .height) x y l)
 
-whole-painted : (p : Picture) (c : Block) (op : Op) (l : List Cell) → p .width * p .height ≤ length l → PixelsWhole p l → PixelsWhole p (paintedUnder p c op l)
+whole-painted : (p : Chosen) (c : Block) (op : Op) (l : List Cell) → p .width * p .height ≤ length l → PixelsWhole p l → PixelsWhole p (paintedUnder p c op l)
 whole-painted p c op l h k x y i j =
     rw (painted-pixel (c .x) (c .y) (p .width) (p .height) l h op x y i j) (go (covers c x y))
   where
@@ -135,7 +135,7 @@ whole-painted p c op l h k x y i j =
     go true = done-whole op (pixelCell (p .width) (p .height) x y l) (k x y i j)
     go false = k x y i j
 
-pub whole-after : (p : Picture) (b : Block) (number new : ℕ) (es : List (Event Block)) (l : List Cell) → p .width * p .height ≤ length l → PixelsWhole p l
+pub whole-after : (p : Chosen) (b : Block) (number new : ℕ) (es : List (Event Block)) (l : List Cell) → p .width * p .height ≤ length l → PixelsWhole p l
     → PixelsWhole p (cellsAfter p b number new es l)
 unfolding cellsAfter
 whole-after p b number new [] l h k = k

@@ -13,16 +13,17 @@ use Rattle.theory.proofs.Theorems as Theory
 use Rattle.image.specs.declared.Reading.the-variants as R
 use Rattle.image.specs.Cell.{meanings}
 use Rattle.queue.specs.declared.Block.{Block}
-use Rattle.decide.specs.declared.Picture.{Picture}
+use Rattle.decide.specs.declared.Chosen.{Chosen}
 use Rattle.plan.proofs.ChildLaws.{Fine}
 use Rattle.implicit.specs.Step.{World}
 use Rattle.promises.specs.Chart.{Pixel, coversIn, queuedBlocks, snapshotOf}
-use Rattle.promises.specs.Steps.{Asked, BegunAs, Steps, no-steps, then-step, readsIn, StandsGivenUp}
+use Rattle.promises.specs.Steps.{Asked, BegunAs, Steps, no-steps, then-step, then-move, readsIn, StandsGivenUp}
 use Rattle.promises.specs.Turns.{turnsOf, turnsTaking, EveryAnswer}
 use Rattle.promises.specs.Mixes.{Measures, Mix, questionOf}
 use Rattle.promises.specs.Sentences.{WhiteMeansNo}
+use Rattle.promises.proofs.Along.{along-both}
 use Rattle.promises.proofs.Invariant.{Keeps, keeps-queue}
-use Rattle.promises.proofs.Linked.{Reached, Linked, linked-events, begun-passed, begun-reached, begun-accepted, begun-queue, steps-reached, step-linked, in-theory}
+use Rattle.promises.proofs.Linked.{Reached, Linked, linked-events, begun-passed, begun-reached, begun-accepted, begun-queue, steps-reached, step-linked, move-same, StepsFrom, in-theory, over-move}
 use Rattle.promises.proofs.Demand3.{reads-both, stands}
 use Rattle.promises.proofs.Turns.{cuttingOf, judged-by-turns}
 use Rattle.promises.proofs.MixesSplit.{real-cutting}
@@ -30,42 +31,47 @@ use Rattle.promises.proofs.MixesFirst.{first-hold}
 
 -- ---- the steps are judged by their verdicts
 
-module _ (p : Picture) where
+module _ (p : Chosen) where
   -- the parameters of the block that a step takes are as the queue keeps them
-  front-fine : (v v′ : World) (vs : List ℕ) → Reached p v → (l : Linked p v vs v′) → Fine (p .set) (l .step .front)
+  pub front-fine : (v v′ : World) (vs : List ℕ) → Reached p v → (l : Linked p v vs v′) → Fine (p .set) (l .step .front)
   front-fine v v′ vs h l =
       let e : h .blocks ≡ l .step .front ∷ l .step .rest = sym (keeps-queue v (h .blocks) (h .keeps)) ∙ l .step .at-front in
       let k : Keeps v (l .step .front ∷ l .step .rest) = subst (Keeps v) e (h .keeps) in
-      rw (← h .picture) (k .holds .all .0 .fine)
+      rw (← h .chosen) (k .holds .all .0 .fine)
 
-  unfoldable judged-linked : (v v′ : World) (vs : List ℕ) → Reached p v → (l : Linked p v vs v′)
+  unfoldable pub judged-linked : (v v′ : World) (vs : List ℕ) → Reached p v → (l : Linked p v vs v′)
       → Judged (coversIn p) (cuttingOf p) false (snapshotOf p v) (snapshotOf p v′) (l .step)
   judged-linked v v′ vs h l =
       judged-by-turns p (l .step .front) (meanings (v .cells)) vs (l .front-sound) (l .enough) (front-fine v v′ vs h l) (l .verdicts) (snapshotOf p v) (snapshotOf p v′) (l .step) refl
       (λ q. refl) (linked-events p v vs v′ l)
 
   module _ {w : World} (h : Reached p w) where
-    unfoldable every-judged : {n : ℕ} {w′ : World} (r : Steps n w w′) → EveryStep (coversIn p) false (Judged (coversIn p) (cuttingOf p) false) (in-theory p h r)
+    unfoldable pub every-judged : {n : ℕ} {w′ : World} (r : Steps n w w′) → EveryStep (coversIn p) false (Judged (coversIn p) (cuttingOf p) false) (in-theory p h r)
     unfolding EveryStep in-theory
     every-judged no-steps = tt
     every-judged (then-step {w′ = w′} {w″ = w″} r vs evals bytes e) =
         (every-judged r, judged-linked w′ w″ vs (steps-reached p h r) (step-linked p w′ (steps-reached p h r) vs w″ evals bytes e))
+    every-judged (then-move r m) = over-move p h r m (λ s x. EveryStep (coversIn p) false (Judged (coversIn p) (cuttingOf p) false) x) (every-judged r)
 
     -- what is said of each answer is said of each turn
-    answers-turns : (P : Turn Block → Type 0) {n : ℕ} {w′ : World} (r : Steps n w w′) → EveryAnswer p P r → EveryTurn (coversIn p) (cuttingOf p) false P (in-theory p h r) (every-judged r)
-    unfolding EveryAnswer EveryTurn in-theory every-judged judged-linked judged-by-turns turnsTaking
+    pub answers-turns : (P : Turn Block → Type 0) {n : ℕ} {w′ : World} (r : Steps n w w′) → EveryAnswer p P r → EveryTurn (coversIn p) (cuttingOf p) false P (in-theory p h r) (every-judged r)
+    unfolding EveryAnswer EveryTurn in-theory over-move every-judged judged-linked judged-by-turns turnsTaking
     answers-turns P no-steps a = tt
     answers-turns P (then-step {w′ = w′} {w″ = w″} r vs evals bytes e) a =
         (answers-turns P r (a .0), one (step-linked p w′ (steps-reached p h r) vs w″ evals bytes e) (a .1))
       where
         one : (l : Linked p w′ vs w″) → Every P (turnsTaking p w′ vs (queuedBlocks w′)) → Every P (turnsOf p (l .step .front) (meanings (w′ .cells)) vs)
         one l k = subst (λ (q : List Block). Every P (turnsTaking p w′ vs q)) (l .step .at-front) k
+    answers-turns P (then-move {n = n} {w′ = w′} {w″ = w″} r m) a =
+        along-both (StepsFrom p n (snapshotOf p w)) (λ s x. EveryStep (coversIn p) false (Judged (coversIn p) (cuttingOf p) false) x)
+        (move-same p w′ (steps-reached p h r) w″ m) (in-theory p h r) (every-judged r)
+        (λ s x j. EveryTurn (coversIn p) (cuttingOf p) false P x j) (answers-turns P r a)
 
 -- ---- the first blocks hold every mix that is given
 
 module _ (M : Measures) (Solves : Mix M → Type 0) (a : Asked) {w₀ : World} (z : BegunAs a w₀) where
-  abbrev p : Picture
-  p = a .picture
+  abbrev p : Chosen
+  p = a .chosen
 
   abbrev Q : Question Block (Pixel p)
   Q = questionOf M p (a .ranges) Solves

@@ -7,7 +7,7 @@ use Rattle.base.specs.Event.{Event, marks, queues, givesUp}
 use mathlib.Core.List.{List, [], _∷_}
 use Rattle.coordinate.specs.Axis.{pixel, covers1}
 use Rattle.queue.specs.declared.Block.{Block}
-use Rattle.decide.specs.declared.Picture.{Picture}
+use Rattle.decide.specs.declared.Chosen.{Chosen}
 use Rattle.plan.proofs.CoverLaws.{covers, Narrower}
 use Rattle.plan.proofs.EventLaws.{EachEvent}
 use Rattle.promises.specs.Chart.{Pixel, coversIn}
@@ -16,17 +16,17 @@ use Rattle.promises.specs.Chart.{Pixel, coversIn}
 abbrev pub Level : Block → Type 0
 Level b = b .x .rank ≡ b .y .rank
 
-pub covers-as : (p : Picture) (b : Block) (q : Pixel p) → Level b → coversIn p b q ≡ covers b (q .x) (q .y)
+pub covers-as : (p : Chosen) (b : Block) (q : Pixel p) → Level b → coversIn p b q ≡ covers b (q .x) (q .y)
 unfolding coversPixel coversAlong beginsIn covers1 pixel
 covers-as p b q e = rw (← e)
 
 -- what covers less there covers less here
-pub narrower-as : (p : Picture) (b c : Block) → Level b → Level c → Narrower b c → Runs.Narrower (coversIn p) b c
+pub narrower-as : (p : Chosen) (b c : Block) → Level b → Level c → Narrower b c → Runs.Narrower (coversIn p) b c
 unfolding Runs.Narrower
 narrower-as p b c e f n q t = ≡→T (covers-as p b q e ∙ n (q .x) (q .y) (sym (covers-as p c q f) ∙ T→≡ (coversIn p c q) t))
 
 -- of all that a step marks or queues
-pub all-narrower : (p : Picture) (b : Block) (es : List (Event Block)) → Level b → EachEvent Level es → EachEvent (Narrower b) es → Runs.AllNarrower (coversIn p) b es
+pub all-narrower : (p : Chosen) (b : Block) (es : List (Event Block)) → Level b → EachEvent Level es → EachEvent (Narrower b) es → Runs.AllNarrower (coversIn p) b es
 unfolding Runs.AllNarrower
 all-narrower p b [] e f n = tt
 all-narrower p b (marks c ∷ es) e f n = (narrower-as p b c e (f .0) (n .0), all-narrower p b es e (f .1) (n .1))

@@ -8,7 +8,7 @@ use Rattle.image.specs.Cell.{meanings, reading, byteOf}
 use Rattle.image.specs.Range.{cellIndex}
 use Rattle.image.specs.Painting.{pixelCell}
 use Rattle.image.proofs.RangeLaws.{cell-below}
-use Rattle.decide.specs.declared.Picture.{Picture}
+use Rattle.decide.specs.declared.Chosen.{Chosen}
 use Rattle.implicit.specs.Record.{pixelCount}
 use Rattle.implicit.specs.Step.{World}
 use Rattle.implicit.specs.View.{pictureBytes, pictureLeft, pictureAnswer}
@@ -20,21 +20,21 @@ use Rattle.promises.proofs.Linked.{Reached}
 use Rattle.promises.proofs.NeverDamaged.{picture-drawn}
 
 -- the picture's byte of a pixel
-byte-at : (p : Picture) (w : World) → w .state .picture ≡ p → pixelCount (w .state .picture) ≤ length (w .cells) → (x y : ℕ) → x < p .width → y < p .height
+byte-at : (p : Chosen) (w : World) → w .state .chosen ≡ p → pixelCount (w .state .chosen) ≤ length (w .cells) → (x y : ℕ) → x < p .width → y < p .height
     → getD (pictureBytes (w .state) (w .cells)) (cellIndex (p .width) (p .height) x y) 0 ≡ byteOf (reading (w .state .taken) (pixelCell (p .width) (p .height) x y (meanings (w .cells))))
 byte-at p w e k x y a b = rw (← e) (picture-byte (w .state) (w .cells) x y k (rw e a) (rw e b))
 
 -- and the buffer's
-pub drawn : (p : Picture) (w : World) → Reached p w → (out : List ℕ) → pixelCount p ≤ length out → (q : Pixel p)
+pub drawn : (p : Chosen) (w : World) → Reached p w → (out : List ℕ) → pixelCount p ≤ length out → (q : Pixel p)
     → (drawnNumber (pictureAnswer (w .state) (w .cells) (length out)) ≡ 0)
     × (getD (pictureLeft (w .state) (w .cells) out) (cellIndex (p .width) (p .height) (q .x) (q .y)) 0 ≡ byteOf (readsIn p w q))
 unfolding pictureLeft readsIn
 drawn p w h out room q =
     let i = cellIndex (p .width) (p .height) (q .x) (q .y) in
     let k : i < p .width * p .height = cell-below (p .width) (p .height) (q .x) (q .y) (q .x-in) (q .y-in) in
-    let m : pixelCount (w .state .picture) ≡ p .width * p .height = ap pixelCount (h .picture) in
+    let m : pixelCount (w .state .chosen) ≡ p .width * p .height = ap pixelCount (h .chosen) in
     let n = picture-length (w .state) (w .cells) (h .keeps .enough) in (
-      ap drawnNumber (picture-drawn w (h .blocks) (h .keeps) (length out) (rw (h .picture) room)),
-      List·getD-append (pictureBytes (w .state) (w .cells)) (drop (pixelCount (w .state .picture)) out) 0 i (omega (arith, k, m, n))
-          ∙ byte-at p w (h .picture) (h .keeps .enough) (q .x) (q .y) (q .x-in) (q .y-in),
+      ap drawnNumber (picture-drawn w (h .blocks) (h .keeps) (length out) (rw (h .chosen) room)),
+      List·getD-append (pictureBytes (w .state) (w .cells)) (drop (pixelCount (w .state .chosen)) out) 0 i (omega (arith, k, m, n))
+          ∙ byte-at p w (h .chosen) (h .keeps .enough) (q .x) (q .y) (q .x-in) (q .y-in),
     )

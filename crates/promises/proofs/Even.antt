@@ -1,12 +1,12 @@
 -- A picture that uses neither x nor y: every block stays where the first ones are, covers the whole picture, and all cells are alike. Assumes nothing.
-use mathlib.Core.Path.{_≡_, refl, sym, _∙_}
+use mathlib.Core.Path.{_≡_, refl, sym, _∙_, subst}
 use mathlib.Core.Bool.{true, false, true≢false}
 use mathlib.Core.List.{List, [], _∷_}
 use Prim.Native.Nat.{ℕ, _≤_}
 use lib.Dec.{T}
 use Rattle.base.proofs.Test.{≡→T, and-both}
 use Rattle.base.specs.Event.{Event, marks, queues, givesUp, queuedBy}
-use Rattle.theory.specs.Runs.{EveryStep}
+use Rattle.theory.specs.Runs.{Snapshot, EveryStep}
 use Rattle.theory.specs.Demand3.{AllWhole, GivesUpAlike, WholePicture}
 use Rattle.theory.proofs.StandingLaws.{step-alike}
 use Rattle.coordinate.specs.Axis.{covers1}
@@ -17,7 +17,7 @@ use Rattle.queue.specs.declared.directions.Direction.the-variants as D
 use Rattle.queue.specs.declared.directions.DirectionAt.{DirectionAt}
 use Rattle.queue.specs.declared.directions.DirectionAt.the-variants as A
 use Rattle.queue.specs.Directions.{inUse}
-use Rattle.decide.specs.declared.Picture.{Picture}
+use Rattle.decide.specs.declared.Chosen.{Chosen}
 use Rattle.decide.specs.Damage.{sound, directionOf}
 use Rattle.decide.specs.Children.{childrenCut, childrenAlong, childrenOf}
 use Rattle.plan.specs.Plan.{outcomes}
@@ -30,17 +30,17 @@ use Rattle.implicit.specs.Step.{World}
 use Rattle.implicit.proofs.SetupLawsLevel.{level-width, level-height}
 use Rattle.implicit.proofs.SetupLawsBlocks.{startCoordinate, FirstBlock, first-blocks}
 use Rattle.promises.specs.Chart.{Pixel, coversIn, standingAt, queuedBlocks, snapshotOf}
-use Rattle.promises.specs.Steps.{Asked, BegunAs, Steps, no-steps, then-step}
+use Rattle.promises.specs.Steps.{Asked, BegunAs, Steps, no-steps, then-step, then-move}
 use Rattle.promises.proofs.Covering.{covers-as}
 use Rattle.promises.proofs.EventsEach.{each-append, queue-each, queued-each, events-each}
-use Rattle.promises.proofs.Linked.{Reached, Linked, linked-events, step-linked, steps-reached, in-theory, begun-passed, begun-queue, begun-accepted}
+use Rattle.promises.proofs.Linked.{Reached, Linked, linked-events, step-linked, move-same, steps-reached, in-theory, over-move, begun-passed, begun-queue, begun-accepted}
 
 -- where the first blocks are
-pub record AtStart (p : Picture) (b : Block) : Type 0 where
+pub record AtStart (p : Chosen) (b : Block) : Type 0 where
   pub x : b .x ≡ startCoordinate p
   pub y : b .y ≡ startCoordinate p
 
-module _ (p : Picture) (flat : inUse (p .set) D.XY ≡ false) where
+module _ (p : Chosen) (flat : inUse (p .set) D.XY ≡ false) where
   -- no child leaves its parent's place
   at-place : (b c : Block) → AtStart p b → InPlace b c → AtStart p c
   at-place b c h i = record { x = i .x ∙ h .x; y = i .y ∙ h .y }
@@ -90,21 +90,29 @@ module _ (p : Picture) (flat : inUse (p .set) D.XY ≡ false) where
           alike = λ q q′. step-alike (coversIn p) false (l .step) whole q q′ (h .alike q q′);
         }
 
+    even-move : (w w′ : World) → snapshotOf p w ≡ snapshotOf p w′ → Even w → Even w′
+    even-move w w′ e h = record {
+      places = subst (λ (s : Snapshot Block (Pixel p)). Each (AtStart p) (s .queue)) e (h .places);
+      alike = subst (λ (s : Snapshot Block (Pixel p)). (q q′ : Pixel p) → s .cells q ≡ s .cells q′) e (h .alike);
+    }
+
     module _ {w : World} (h : Reached p w) (s : Even w) where
       pub even-steps : {n : ℕ} {w′ : World} → Steps n w w′ → Even w′
       even-steps no-steps = s
       even-steps (then-step {w′ = w′} {w″ = w″} r vs evals bytes e) = even-step w′ w″ vs (step-linked p w′ (steps-reached p h r) vs w″ evals bytes e) (even-steps r)
+      even-steps (then-move {w′ = w′} {w″ = w″} r m) = even-move w′ w″ (move-same p w′ (steps-reached p h r) w″ m) (even-steps r)
 
       pub even-alike : {n : ℕ} {w′ : World} (r : Steps n w w′) → EveryStep (coversIn p) false (GivesUpAlike (coversIn p) false) (in-theory p h r)
       unfolding EveryStep GivesUpAlike in-theory
       even-alike no-steps = tt
       even-alike (then-step {w′ = w′} {w″ = w″} r vs evals bytes e) = (even-alike r, (λ g q q′ c c′. even-steps r .alike q q′))
+      even-alike (then-move r m) = over-move p h r m (λ t x. EveryStep (coversIn p) false (GivesUpAlike (coversIn p) false) x) (even-alike r)
 
 -- AT THE START
-pub begun-even : (a : Asked) (w : World) (z : BegunAs a w) (flat : inUse (a .picture .set) D.XY ≡ false)
-    → Even (a .picture) flat (begun-passed a w z .width-most) (begun-passed a w z .height-most) w
+pub begun-even : (a : Asked) (w : World) (z : BegunAs a w) (flat : inUse (a .chosen .set) D.XY ≡ false)
+    → Even (a .chosen) flat (begun-passed a w z .width-most) (begun-passed a w z .height-most) w
 begun-even a w z flat =
-    let p = a .picture in
+    let p = a .chosen in
     record {
       places = rw (begun-queue a w z)
           (each-also (FirstBlock p) (AtStart p) (λ b f. record { x = f .x; y = f .y }) (firstBlocks p (a .ranges))

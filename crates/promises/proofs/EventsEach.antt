@@ -6,7 +6,7 @@ use Rattle.base.specs.Event.{Event, marks, queues, givesUp, queuedBy}
 use Rattle.theory.specs.Lists as Theory
 use Rattle.queue.specs.declared.Block.{Block}
 use Rattle.queue.proofs.QueueLaws as Queue
-use Rattle.decide.specs.declared.Picture.{Picture}
+use Rattle.decide.specs.declared.Chosen.{Chosen}
 use Rattle.decide.specs.declared.turn.Found.{Found}
 use Rattle.decide.specs.declared.turn.Found.the-variants as F
 use Rattle.decide.specs.declared.verdict.Outcome.{Outcome}
@@ -48,7 +48,7 @@ queued-each P (marks c ∷ es) h = queued-each P es (h .1)
 queued-each P (queues c ∷ es) h = (h .0, queued-each P es (h .1))
 queued-each P (givesUp ∷ es) h = queued-each P es h
 
-module _ (P : Block → Type 0) (keeps : (c : Block) (d : ℕ) → P c → P (turnedTo c d)) (p : Picture) (b : Block) where
+module _ (P : Block → Type 0) (keeps : (c : Block) (d : ℕ) → P c → P (turnedTo c d)) (p : Chosen) (b : Block) where
   marked-each : (cs : List Block) (os : List Outcome) → Each P cs → EachEvent P (markEvents cs os)
   unfolding markEvents
   marked-each [] os h = tt

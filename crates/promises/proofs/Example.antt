@@ -23,7 +23,7 @@ use Rattle.queue.specs.Code.{coordinateCode, parameterCode, parametersCode, pla
 use Rattle.queue.specs.Decode.{levelRead, coordinateOf, coordinateRead, parameterRead, withX, placeRead, addParameter, addParameters, addDirection, decode}
 use Rattle.queue.specs.Ring.{olderRun, newerRun, content, stored}
 use Rattle.queue.specs.Queue.{taken, queueOf, queueCodes, memory}
-use Rattle.decide.specs.Damage.{legalPicture, undamaged, cellDamaged}
+use Rattle.decide.specs.Damage.{legalChosen, undamaged, cellDamaged}
 use Rattle.decide.specs.Children.{quartersOf, keptInside, childrenXY, childrenOf}
 use Rattle.decide.specs.Verdict.{legalVerdict, allLegal, toldOutcome}
 use Rattle.plan.specs.Plan.{allTrue, outcomes, evaluations, openCount, markEvents, turnEvents, eventsFor, cellsAfter}
@@ -38,7 +38,7 @@ use Rattle.promises.specs.Turns.{saidBy}
 -- the sheet's picture, with a ring of one byte and cells of one number more than are needed
 abbrev pub sheet : Asked
 sheet = record {
-  picture = record { width = 2; height = 1; set = 48 };
+  chosen = record { width = 2; height = 1; set = 48; reserved1 = 0; reserved2 = 0; reserved3 = 0 };
   ranges = record { m = wholeLine; n = wholeLine; theta = wholeLine; t = wholeLine };
   ring = 9 ∷ 9 ∷ 9 ∷ 9 ∷ 9 ∷ 9 ∷ [];
   cells = 7 ∷ 7 ∷ 7 ∷ [];
@@ -47,7 +47,7 @@ sheet = record {
 -- what setup leaves: one block, coded 01 01 01 01 00, and both cells name it; what is beyond is as it was
 abbrev pub first : World
 first = worldOf
-    (record { picture = sheet .picture; taken = 0; queued = 1; len = 6; head = 0; used = 5; front = startingLast; back = startingLast })
+    (record { chosen = sheet .chosen; taken = 0; queued = 1; len = 6; head = 0; used = 5; front = startingLast; back = startingLast })
     (1 ∷ 1 ∷ 1 ∷ 1 ∷ 0 ∷ 9 ∷ []) (0 ∷ 0 ∷ 7 ∷ [])
 
 pub begun : BegunAs sheet first
@@ -57,25 +57,25 @@ begun = record { accepted = refl; state = refl; ring = refl; cells = refl; held 
 -- what the step leaves: the block is taken, its left child marked, its right one false
 abbrev pub second : World
 second = worldOf
-    (record { picture = sheet .picture; taken = 1; queued = 1; len = 6; head = 5; used = 0; front = startingLast; back = startingLast })
+    (record { chosen = sheet .chosen; taken = 1; queued = 1; len = 6; head = 5; used = 0; front = startingLast; back = startingLast })
     (1 ∷ 1 ∷ 1 ∷ 1 ∷ 0 ∷ 9 ∷ []) (4294967296 ∷ 0 ∷ 7 ∷ [])
 
 pub one-step : stepOf first (128 ∷ 0 ∷ []) ≡ finished second 2 2
-unfolding stepWith unless opened judged worldLeft soundRecord soundLast putLast legalPicture legalInterval wholeBound zeroAs putInterval startingLast remembered taken content olderRun newerRun decode placeRead withX coordinateRead coordinateOf readSmall readBehind levelRead addParameters addParameter parameterRead addDirection undamaged cellDamaged inRange inside places pixel rectangleOf holdsCell heldCells someOf everyOf isDamaged isMarked meaningOf cellCode directions usedOf directionAt childrenOf childrenXY keptInside quartersOf allLegal legalVerdict outcomes allTrue toldOutcome evaluations openCount eventsFor markEvents turnEvents queuedBy queueCodes memory cellsAfter painted doneTo stored ofLittleEndian littleEndian le trailingZeros
+unfolding stepWith unless opened judged worldLeft soundRecord soundLast putLast legalChosen legalInterval wholeBound zeroAs putInterval startingLast remembered taken content olderRun newerRun decode placeRead withX coordinateRead coordinateOf readSmall readBehind levelRead addParameters addParameter parameterRead addDirection undamaged cellDamaged inRange inside places pixel rectangleOf holdsCell heldCells someOf everyOf isDamaged isMarked meaningOf cellCode directions usedOf directionAt childrenOf childrenXY keptInside quartersOf allLegal legalVerdict outcomes allTrue toldOutcome evaluations openCount eventsFor markEvents turnEvents queuedBy queueCodes memory cellsAfter painted doneTo stored ofLittleEndian littleEndian le trailingZeros
 one-step = refl
 
 unfoldable pub stepped : Steps 1 first second
 stepped = then-step no-steps (128 ∷ 0 ∷ []) 2 2 one-step
 
 -- its two pixels
-abbrev pub at : (x : ℕ) → x < 2 → Pixel (sheet .picture)
+abbrev pub at : (x : ℕ) → x < 2 → Pixel (sheet .chosen)
 at x h = record { x = x; y = 0; x-in = h; y-in = lit< tt }
 
-pub left-true : readsIn (sheet .picture) second (at 0 (lit< tt)) ≡ R.True
+pub left-true : readsIn (sheet .chosen) second (at 0 (lit< tt)) ≡ R.True
 unfolding readsIn reading meaningOf
 left-true = refl
 
-pub right-false : readsIn (sheet .picture) second (at 1 (lit< tt)) ≡ R.False
+pub right-false : readsIn (sheet .chosen) second (at 1 (lit< tt)) ≡ R.False
 unfolding readsIn reading meaningOf
 right-false = refl
 

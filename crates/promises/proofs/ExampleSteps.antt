@@ -1,5 +1,5 @@
--- Two small charts, step by step. Document 01's first sheet with a ring of 16 bytes, under 40 40, then A0 00 00 00, then 00 00 00 00: both pixels wait, the left
--- one is marked, the right one is denied. And one pixel with no variable, whose block can't be cut: under 40 it is given up. Every line is computed.
+-- Two small charts, step by step. Document 01's first sheet with a ring of 16 bytes, under 40 40, then 00 00 00 00, then A0 00 00 00: both pixels wait, the left
+-- one is denied, the right one is marked. And one pixel with no variable, whose block can't be cut: under 40 it is given up. Every line is computed.
 -- Assumes nothing.
 use mathlib.Core.Path.{_≡_, refl}
 use mathlib.Core.List.{[], _∷_}
@@ -23,7 +23,7 @@ use Rattle.queue.specs.Code.{coordinateCode, parameterCode, parametersCode, pla
 use Rattle.queue.specs.Decode.{levelRead, coordinateOf, coordinateRead, parameterRead, withX, placeRead, addParameter, addParameters, addDirection, decode}
 use Rattle.queue.specs.Ring.{olderRun, newerRun, content, stored}
 use Rattle.queue.specs.Queue.{taken, queueCodes, memory}
-use Rattle.decide.specs.Damage.{legalPicture, undamaged, cellDamaged}
+use Rattle.decide.specs.Damage.{legalChosen, undamaged, cellDamaged}
 use Rattle.decide.specs.Children.{quartersOf, keptInside, childrenXY, childrenOf}
 use Rattle.decide.specs.Verdict.{legalVerdict, allLegal, undecidedOutcome, toldOutcome}
 use Rattle.decide.specs.Turn.{startOf, searchedFrom, turned}
@@ -40,45 +40,45 @@ use Rattle.promises.specs.Steps.{Asked, BegunAs, Steps, no-steps, then-s
 
 abbrev pub two : Asked
 two = record {
-  picture = record { width = 2; height = 1; set = 48 };
+  chosen = record { width = 2; height = 1; set = 48; reserved1 = 0; reserved2 = 0; reserved3 = 0 };
   ranges = record { m = wholeLine; n = wholeLine; theta = wholeLine; t = wholeLine };
   ring = 9 ∷ 9 ∷ 9 ∷ 9 ∷ 9 ∷ 9 ∷ 9 ∷ 9 ∷ 9 ∷ 9 ∷ 9 ∷ 9 ∷ 9 ∷ 9 ∷ 9 ∷ 9 ∷ [];
   cells = 7 ∷ 7 ∷ [];
 }
 
 -- what is remembered of the right pixel's block
-abbrev right-last : Last
+abbrev pub right-last : Last
 right-last = record { x = 1; y = 0; m = wholeLine; n = wholeLine; theta = wholeLine; t = wholeLine }
 
 -- after so many steps; after three, nothing is queued
 abbrev pub after : ℕ → World
 after zero = worldOf
-    (record { picture = two .picture; taken = 0; queued = 1; len = 16; head = 0; used = 5; front = startingLast; back = startingLast })
+    (record { chosen = two .chosen; taken = 0; queued = 1; len = 16; head = 0; used = 5; front = startingLast; back = startingLast })
     (1 ∷ 1 ∷ 1 ∷ 1 ∷ 0 ∷ 9 ∷ 9 ∷ 9 ∷ 9 ∷ 9 ∷ 9 ∷ 9 ∷ 9 ∷ 9 ∷ 9 ∷ 9 ∷ []) (0 ∷ 0 ∷ [])
 after (suc zero) = worldOf
-    (record { picture = two .picture; taken = 1; queued = 3; len = 16; head = 5; used = 10; front = startingLast; back = right-last })
+    (record { chosen = two .chosen; taken = 1; queued = 3; len = 16; head = 5; used = 10; front = startingLast; back = right-last })
     (1 ∷ 1 ∷ 1 ∷ 1 ∷ 0 ∷ 1 ∷ 0 ∷ 1 ∷ 0 ∷ 0 ∷ 3 ∷ 0 ∷ 1 ∷ 0 ∷ 0 ∷ 9 ∷ []) (1 ∷ 2 ∷ [])
 after (suc (suc zero)) = worldOf
-    (record { picture = two .picture; taken = 2; queued = 3; len = 16; head = 10; used = 5; front = startingLast; back = right-last })
-    (1 ∷ 1 ∷ 1 ∷ 1 ∷ 0 ∷ 1 ∷ 0 ∷ 1 ∷ 0 ∷ 0 ∷ 3 ∷ 0 ∷ 1 ∷ 0 ∷ 0 ∷ 9 ∷ []) (4294967296 ∷ 2 ∷ [])
+    (record { chosen = two .chosen; taken = 2; queued = 3; len = 16; head = 10; used = 5; front = startingLast; back = right-last })
+    (1 ∷ 1 ∷ 1 ∷ 1 ∷ 0 ∷ 1 ∷ 0 ∷ 1 ∷ 0 ∷ 0 ∷ 3 ∷ 0 ∷ 1 ∷ 0 ∷ 0 ∷ 9 ∷ []) (1 ∷ 2 ∷ [])
 after (suc (suc (suc n))) = worldOf
-    (record { picture = two .picture; taken = 3; queued = 3; len = 16; head = 15; used = 0; front = right-last; back = right-last })
-    (1 ∷ 1 ∷ 1 ∷ 1 ∷ 0 ∷ 1 ∷ 0 ∷ 1 ∷ 0 ∷ 0 ∷ 3 ∷ 0 ∷ 1 ∷ 0 ∷ 0 ∷ 9 ∷ []) (4294967296 ∷ 2 ∷ [])
+    (record { chosen = two .chosen; taken = 3; queued = 3; len = 16; head = 15; used = 0; front = right-last; back = right-last })
+    (1 ∷ 1 ∷ 1 ∷ 1 ∷ 0 ∷ 1 ∷ 0 ∷ 1 ∷ 0 ∷ 0 ∷ 3 ∷ 0 ∷ 1 ∷ 0 ∷ 0 ∷ 9 ∷ []) (1 ∷ 4294967296 ∷ [])
 
 pub two-begun : BegunAs two (after 0)
 unfolding startedAnswer setupRefusal rangesLegal firstBytes firstBlocks cutFirstIn rootBlock startLevel leastFrom startRecord startRing startCells ringBegun cellsBegun queueCodes memory encode placeCode coordinateCode parametersCode parameterCode startingLast remembered smallCode codeOf tailOf littleEndian stored paintedCells paintable painted pictureReady inPicture holdsCell nameable doneTo meaningOf cellCode fits
 two-begun = record { accepted = refl; state = refl; ring = refl; cells = refl; held = ((tt, tt), (tt, tt), (tt, tt), (tt, tt)) }
 
 pub three-steps : (stepOf (after 0) (64 ∷ 64 ∷ []) ≡ finished (after 1) 2 2)
-    × (stepOf (after 1) (160 ∷ 0 ∷ 0 ∷ 0 ∷ []) ≡ finished (after 2) 1 4)
-    × (stepOf (after 2) (0 ∷ 0 ∷ 0 ∷ 0 ∷ []) ≡ finished (after 3) 4 4)
-unfolding stepWith unless opened judged worldLeft soundRecord soundLast putLast legalPicture legalInterval wholeBound zeroAs putInterval startingLast remembered taken content olderRun newerRun decode placeRead withX coordinateRead coordinateOf readSmall readBehind levelRead addParameters addParameter parameterRead addDirection undamaged cellDamaged inRange inside places pixel rectangleOf holdsCell heldCells someOf everyOf isDamaged isMarked meaningOf cellCode directions usedOf directionAt childrenOf childrenXY keptInside quartersOf allLegal legalVerdict outcomes allTrue toldOutcome undecidedOutcome evaluations openCount eventsFor markEvents turnEvents turned startOf searchedFrom queuedBy queueCodes memory encode placeCode coordinateCode parametersCode parameterCode smallCode codeOf tailOf cellsAfter painted doneTo stored ofLittleEndian littleEndian le trailingZeros
+    × (stepOf (after 1) (0 ∷ 0 ∷ 0 ∷ 0 ∷ []) ≡ finished (after 2) 4 4)
+    × (stepOf (after 2) (160 ∷ 0 ∷ 0 ∷ 0 ∷ []) ≡ finished (after 3) 1 4)
+unfolding stepWith unless opened judged worldLeft soundRecord soundLast putLast legalChosen legalInterval wholeBound zeroAs putInterval startingLast remembered taken content olderRun newerRun decode placeRead withX coordinateRead coordinateOf readSmall readBehind levelRead addParameters addParameter parameterRead addDirection undamaged cellDamaged inRange inside places pixel rectangleOf holdsCell heldCells someOf everyOf isDamaged isMarked meaningOf cellCode directions usedOf directionAt childrenOf childrenXY keptInside quartersOf allLegal legalVerdict outcomes allTrue toldOutcome undecidedOutcome evaluations openCount eventsFor markEvents turnEvents turned startOf searchedFrom queuedBy queueCodes memory encode placeCode coordinateCode parametersCode parameterCode smallCode codeOf tailOf cellsAfter painted doneTo stored ofLittleEndian littleEndian le trailingZeros
 three-steps = (refl, refl, refl)
 
 -- on what the setup left: three verdicts where there are two children are refused by 4, and a byte C0, which is no verdict, by 5
 pub two-refused : (stepNumber (stepAnswer (after 0 .state) (stepOf (after 0) (64 ∷ 64 ∷ 64 ∷ []))) ≡ 4)
     × (stepNumber (stepAnswer (after 0 .state) (stepOf (after 0) (64 ∷ 192 ∷ []))) ≡ 5)
-unfolding stepWith unless opened judged soundRecord soundLast putLast legalPicture legalInterval wholeBound zeroAs putInterval startingLast remembered taken content olderRun newerRun decode placeRead withX coordinateRead coordinateOf readSmall readBehind levelRead addParameters addParameter parameterRead addDirection undamaged cellDamaged inRange inside places pixel rectangleOf holdsCell heldCells someOf isDamaged meaningOf cellCode directions usedOf directionAt childrenOf childrenXY keptInside quartersOf allLegal legalVerdict ofLittleEndian littleEndian le trailingZeros
+unfolding stepWith unless opened judged soundRecord soundLast putLast legalChosen legalInterval wholeBound zeroAs putInterval startingLast remembered taken content olderRun newerRun decode placeRead withX coordinateRead coordinateOf readSmall readBehind levelRead addParameters addParameter parameterRead addDirection undamaged cellDamaged inRange inside places pixel rectangleOf holdsCell heldCells someOf isDamaged meaningOf cellCode directions usedOf directionAt childrenOf childrenXY keptInside quartersOf allLegal legalVerdict ofLittleEndian littleEndian le trailingZeros
 two-refused = (refl, refl)
 
 -- from the setup on, so many steps
@@ -86,42 +86,46 @@ abbrev first-step : Steps 1 (after 0) (after 1)
 first-step = then-step no-steps (64 ∷ 64 ∷ []) 2 2 (three-steps .0)
 
 abbrev two-steps : Steps 2 (after 0) (after 2)
-two-steps = then-step first-step (160 ∷ 0 ∷ 0 ∷ 0 ∷ []) 1 4 (three-steps .1)
+two-steps = then-step first-step (0 ∷ 0 ∷ 0 ∷ 0 ∷ []) 4 4 (three-steps .1)
 
 unfoldable pub ran : (n : ℕ) → n ≤ 3 → Steps n (after 0) (after n)
 ran zero h = no-steps
 ran (suc zero) h = first-step
 ran (suc (suc zero)) h = two-steps
-ran (suc (suc (suc zero))) h = then-step two-steps (0 ∷ 0 ∷ 0 ∷ 0 ∷ []) 4 4 (three-steps .2)
+ran (suc (suc (suc zero))) h = then-step two-steps (160 ∷ 0 ∷ 0 ∷ 0 ∷ []) 1 4 (three-steps .2)
 ran (suc (suc (suc (suc n)))) h = absurd (omega arith)
 
 -- and so many more after the first
 abbrev next-step : Steps 1 (after 1) (after 2)
-next-step = then-step no-steps (160 ∷ 0 ∷ 0 ∷ 0 ∷ []) 1 4 (three-steps .1)
+next-step = then-step no-steps (0 ∷ 0 ∷ 0 ∷ 0 ∷ []) 4 4 (three-steps .1)
 
 unfoldable pub ran-on : (n : ℕ) → n ≤ 2 → Steps n (after 1) (after (suc n))
 ran-on zero h = no-steps
 ran-on (suc zero) h = next-step
-ran-on (suc (suc zero)) h = then-step next-step (0 ∷ 0 ∷ 0 ∷ 0 ∷ []) 4 4 (three-steps .2)
+ran-on (suc (suc zero)) h = then-step next-step (160 ∷ 0 ∷ 0 ∷ 0 ∷ []) 1 4 (three-steps .2)
 ran-on (suc (suc (suc n))) h = absurd (omega arith)
 
+-- and the last alone
+abbrev pub last-step : Steps 1 (after 2) (after 3)
+last-step = then-step no-steps (160 ∷ 0 ∷ 0 ∷ 0 ∷ []) 1 4 (three-steps .2)
+
 -- the first two took these bytes, at so many evaluations
-pub took-in-order : (verdictsOf (ran 2 (lit≤ tt)) ≡ 64 ∷ 64 ∷ 160 ∷ 0 ∷ 0 ∷ 0 ∷ []) × (evaluationsOf (ran 2 (lit≤ tt)) ≡ 3)
+pub took-in-order : (verdictsOf (ran 2 (lit≤ tt)) ≡ 64 ∷ 64 ∷ 0 ∷ 0 ∷ 0 ∷ 0 ∷ []) × (evaluationsOf (ran 2 (lit≤ tt)) ≡ 6)
 unfolding verdictsOf evaluationsOf ran
 took-in-order = (refl, refl)
 
 -- its pixels
-abbrev pub left : Pixel (two .picture)
+abbrev pub left : Pixel (two .chosen)
 left = record { x = 0; y = 0; x-in = lit< tt; y-in = lit< tt }
 
-abbrev pub right : Pixel (two .picture)
+abbrev pub right : Pixel (two .chosen)
 right = record { x = 1; y = 0; x-in = lit< tt; y-in = lit< tt }
 
 -- ---- one pixel, no variable
 
 abbrev pub one : Asked
 one = record {
-  picture = record { width = 1; height = 1; set = 0 };
+  chosen = record { width = 1; height = 1; set = 0; reserved1 = 0; reserved2 = 0; reserved3 = 0 };
   ranges = record { m = wholeLine; n = wholeLine; theta = wholeLine; t = wholeLine };
   ring = 9 ∷ 9 ∷ 9 ∷ 9 ∷ 9 ∷ 9 ∷ [];
   cells = 7 ∷ [];
@@ -129,7 +133,7 @@ one = record {
 
 abbrev pub waits : World
 waits = worldOf
-    (record { picture = one .picture; taken = 0; queued = 1; len = 6; head = 0; used = 5; front = startingLast; back = startingLast })
+    (record { chosen = one .chosen; taken = 0; queued = 1; len = 6; head = 0; used = 5; front = startingLast; back = startingLast })
     (1 ∷ 0 ∷ 1 ∷ 0 ∷ 0 ∷ 9 ∷ []) (0 ∷ [])
 
 pub one-begun : BegunAs one waits
@@ -138,15 +142,15 @@ one-begun = record { accepted = refl; state = refl; ring = refl; cells = refl; h
 
 abbrev pub given-up : World
 given-up = worldOf
-    (record { picture = one .picture; taken = 1; queued = 1; len = 6; head = 5; used = 0; front = startingLast; back = startingLast })
+    (record { chosen = one .chosen; taken = 1; queued = 1; len = 6; head = 5; used = 0; front = startingLast; back = startingLast })
     (1 ∷ 0 ∷ 1 ∷ 0 ∷ 0 ∷ 9 ∷ []) (4294967297 ∷ [])
 
 pub gives-up : stepOf waits (64 ∷ []) ≡ finished given-up 1 1
-unfolding stepWith unless opened judged worldLeft soundRecord soundLast putLast legalPicture legalInterval wholeBound zeroAs putInterval startingLast remembered taken content olderRun newerRun decode placeRead withX coordinateRead coordinateOf readSmall readBehind levelRead addParameters addParameter parameterRead addDirection undamaged cellDamaged inRange inside places pixel rectangleOf holdsCell heldCells someOf everyOf isDamaged isMarked meaningOf cellCode directions usedOf directionAt childrenOf childrenXY keptInside quartersOf allLegal legalVerdict outcomes allTrue toldOutcome undecidedOutcome evaluations openCount eventsFor markEvents turnEvents turned startOf searchedFrom queuedBy queueCodes memory encode placeCode coordinateCode parametersCode parameterCode smallCode codeOf tailOf cellsAfter painted doneTo stored ofLittleEndian littleEndian le trailingZeros
+unfolding stepWith unless opened judged worldLeft soundRecord soundLast putLast legalChosen legalInterval wholeBound zeroAs putInterval startingLast remembered taken content olderRun newerRun decode placeRead withX coordinateRead coordinateOf readSmall readBehind levelRead addParameters addParameter parameterRead addDirection undamaged cellDamaged inRange inside places pixel rectangleOf holdsCell heldCells someOf everyOf isDamaged isMarked meaningOf cellCode directions usedOf directionAt childrenOf childrenXY keptInside quartersOf allLegal legalVerdict outcomes allTrue toldOutcome undecidedOutcome evaluations openCount eventsFor markEvents turnEvents turned startOf searchedFrom queuedBy queueCodes memory encode placeCode coordinateCode parametersCode parameterCode smallCode codeOf tailOf cellsAfter painted doneTo stored ofLittleEndian littleEndian le trailingZeros
 gives-up = refl
 
 unfoldable pub gave-up : Steps 1 waits given-up
 gave-up = then-step no-steps (64 ∷ []) 1 1 gives-up
 
-abbrev pub only : Pixel (one .picture)
+abbrev pub only : Pixel (one .chosen)
 only = record { x = 0; y = 0; x-in = lit< tt; y-in = lit< tt }

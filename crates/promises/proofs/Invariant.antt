@@ -20,14 +20,14 @@ use Rattle.queue.specs.Block.{remembered}
 use Rattle.queue.specs.Code.{encode}
 use Rattle.queue.specs.Ring.{content, fitsRing, wrapped}
 use Rattle.queue.proofs.QueueLaws.{BytesHold, queue-is, take-answers}
-use Rattle.decide.specs.declared.Picture.{Picture}
+use Rattle.decide.specs.declared.Chosen.{Chosen}
 use Rattle.decide.specs.Damage.{undamaged, sound, coveredCells, cellDamaged}
 use Rattle.decide.specs.Children.{childrenOf}
 use Rattle.plan.proofs.Each.{Each}
 use Rattle.implicit.specs.Record.{pixelCount, soundRecord}
 use Rattle.implicit.specs.Listing.{frontOf}
 use Rattle.implicit.specs.Step.{World, refused, unless, enoughVerdicts, blockFine, judged, opened, stepWith}
-use Rattle.implicit.proofs.RecordLaws.{SoundRecord, sound-record, sound-picture}
+use Rattle.implicit.proofs.RecordLaws.{SoundRecord, sound-record, sound-chosen}
 use Rattle.promises.specs.Chart.{queuedBlocks}
 use Rattle.promises.proofs.CellsKept.{PixelsWhole}
 use Rattle.promises.proofs.Remembered.{Put}
@@ -35,11 +35,11 @@ use Rattle.promises.proofs.Remembered.{Put}
 -- THE INVARIANT, with the queued blocks q
 pub record Keeps (w : World) (q : List Block) : Type 0 where
   pub sound-record : soundRecord (length (w .ring)) (w .state) ≡ true
-  pub enough : pixelCount (w .state .picture) ≤ length (w .cells)
-  pub holds : BytesHold (w .state .picture .set) (w .state .front) (w .state .back) (content (w .ring) (w .state .head) (w .state .used)) q
+  pub enough : pixelCount (w .state .chosen) ≤ length (w .cells)
+  pub holds : BytesHold (w .state .chosen .set) (w .state .front) (w .state .back) (content (w .ring) (w .state .head) (w .state .used)) q
   pub count : w .state .taken + length q ≡ w .state .queued
-  pub undamaged-all : Each (λ b. undamaged (w .state .picture) b ≡ true) q
-  pub whole : PixelsWhole (w .state .picture) (meanings (w .cells))
+  pub undamaged-all : Each (λ b. undamaged (w .state .chosen) b ≡ true) q
+  pub whole : PixelsWhole (w .state .chosen) (meanings (w .cells))
   pub front-put : Put (w .state .front)
 
 -- the queued blocks are what the bytes decode to
@@ -60,7 +60,7 @@ not-damaged test (c ∷ l) e = go (test c) (not-damaged test l) e
     go false ih h = ih h
 
 -- so no block covers a damaged one
-pub cells-whole : (p : Picture) (b : Block) (l : List Cell) → p .width * p .height ≤ length l → PixelsWhole p l → cellDamaged p b l ≡ false
+pub cells-whole : (p : Chosen) (b : Block) (l : List Cell) → p .width * p .height ≤ length l → PixelsWhole p l → cellDamaged p b l ≡ false
 unfolding cellDamaged
 cells-whole p b l h k =
     not-damaged isDamaged (coveredCells p b l)
@@ -70,13 +70,13 @@ cells-whole p b l h k =
 
 module _ (w : World) (c : Block) (rest : List Block) (k : Keeps w (c ∷ rest)) where
   abbrev pub size : ℕ
-  size = length (encode (w .state .picture .set) (w .state .front) c)
+  size = length (encode (w .state .chosen .set) (w .state .front) c)
 
   abbrev pub head′ : ℕ
-  head′ = wrapped (length (w .ring)) (w .state .head + length (encode (w .state .picture .set) (w .state .front) c))
+  head′ = wrapped (length (w .ring)) (w .state .head + length (encode (w .state .chosen .set) (w .state .front) c))
 
   abbrev pub used′ : ℕ
-  used′ = w .state .used - length (encode (w .state .picture .set) (w .state .front) c)
+  used′ = w .state .used - length (encode (w .state .chosen .set) (w .state .front) c)
 
   record-facts : SoundRecord (length (w .ring)) (w .state)
   record-facts = sound-record (length (w .ring)) (w .state) (k .sound-record)
@@ -85,8 +85,8 @@ module _ (w : World) (c : Block) (rest : List Block) (k : Keeps w (c ∷ rest)) 
   fits = let f = record-facts in and-both (ltb (w .state .head) (length (w .ring))) (leb (w .state .used) (length (w .ring))) (lt-ltb (w .state .head) (length (w .ring)) (f .head)) (le-leb (w .state .used) (length (w .ring)) (f .used))
 
   taking : (frontOf (w .state) (w .ring) ≡ T.Front c (remembered c) head′ used′) × (size ≤ w .state .used)
-      × BytesHold (w .state .picture .set) (remembered c) (w .state .back) (content (w .ring) head′ used′) rest
-  taking = take-answers (w .ring) (w .state .head) (w .state .used) (w .state .picture .set) fits (k .holds)
+      × BytesHold (w .state .chosen .set) (remembered c) (w .state .back) (content (w .ring) head′ used′) rest
+  taking = take-answers (w .ring) (w .state .head) (w .state .used) (w .state .chosen .set) fits (k .holds)
 
   -- the front block is read
   pub front-is : frontOf (w .state) (w .ring) ≡ T.Front c (remembered c) head′ used′
@@ -95,29 +95,29 @@ module _ (w : World) (c : Block) (rest : List Block) (k : Keeps w (c ∷ rest)) 
   pub size-in : size ≤ w .state .used
   size-in = taking .1
 
-  pub rest-holds : BytesHold (w .state .picture .set) (remembered c) (w .state .back) (content (w .ring) head′ used′) rest
+  pub rest-holds : BytesHold (w .state .chosen .set) (remembered c) (w .state .back) (content (w .ring) head′ used′) rest
   rest-holds = taking .2
 
-  pub block-sound : sound (w .state .picture) c ≡ true
-  block-sound = and-both _ _ (sound-picture (length (w .ring)) (w .state) (k .sound-record)) (k .undamaged-all .0)
+  pub block-sound : sound (w .state .chosen) c ≡ true
+  block-sound = and-both _ _ (sound-chosen (length (w .ring)) (w .state) (k .sound-record)) (k .undamaged-all .0)
 
-  pub fine : blockFine (w .state .picture) (w .cells) c ≡ true
+  pub fine : blockFine (w .state .chosen) (w .cells) c ≡ true
   fine =
-      and-both (undamaged (w .state .picture) c) (not (cellDamaged (w .state .picture) c (meanings (w .cells)))) (k .undamaged-all .0)
-      (ap not (cells-whole (w .state .picture) c (meanings (w .cells)) (rw (L.length-map (w .cells) meaningOf) (k .enough)) (k .whole)))
+      and-both (undamaged (w .state .chosen) c) (not (cellDamaged (w .state .chosen) c (meanings (w .cells)))) (k .undamaged-all .0)
+      (ap not (cells-whole (w .state .chosen) c (meanings (w .cells)) (rw (L.length-map (w .cells) meaningOf) (k .enough)) (k .whole)))
 
   -- A STEP ON IT passes all tests but those of its verdicts, of room and of numbers
   pub step-passes : (tape : Bool) (vs : List ℕ)
       → stepWith tape w vs
-      ≡ unless R.Verdicts (enoughVerdicts tape (length (childrenOf (w .state .picture) c)) (length vs))
-      (judged w c (remembered c) head′ used′ (take (length (childrenOf (w .state .picture) c)) vs))
+      ≡ unless R.Verdicts (enoughVerdicts tape (length (childrenOf (w .state .chosen) c)) (length vs))
+      (judged w c (remembered c) head′ used′ (take (length (childrenOf (w .state .chosen) c)) vs))
   unfolding stepWith opened unless
   step-passes tape vs =
       let n : w .state .taken < w .state .queued = omega (arith, k .count) in
-      rw (k .sound-record, le-leb (pixelCount (w .state .picture)) (length (w .cells)) (k .enough), lt-ltb (w .state .taken) (w .state .queued) n, front-is, fine)
+      rw (k .sound-record, le-leb (pixelCount (w .state .chosen)) (length (w .cells)) (k .enough), lt-ltb (w .state .taken) (w .state .queued) n, front-is, fine)
 
 -- ON AN EMPTY QUEUE a step is refused by 13
 pub step-empty : (w : World) → Keeps w [] → (tape : Bool) (vs : List ℕ) → stepWith tape w vs ≡ refused R.Empty
 unfolding stepWith unless
 step-empty w k tape vs =
-    rw (k .sound-record, le-leb (pixelCount (w .state .picture)) (length (w .cells)) (k .enough), le-ltb (w .state .taken) (w .state .queued) (omega (arith, k .count)))
+    rw (k .sound-record, le-leb (pixelCount (w .state .chosen)) (length (w .cells)) (k .enough), le-ltb (w .state .taken) (w .state .queued) (omega (arith, k .count)))

@@ -8,9 +8,12 @@ pub mod EventsEach
 -- the invariant, and the engine's steps as `theory`'s
 pub mod Remembered
 pub mod Invariant
+pub mod Along
+pub mod MoveKeeps
 pub mod StepKeeps
 pub mod SetupKeeps
 pub mod Linked
+pub mod Answered
 -- the promises
 pub mod Demand3
 pub mod RunSteps
@@ -18,9 +21,16 @@ pub mod NeverDamaged
 pub mod Drawing
 pub mod Places
 pub mod PlaneBounds
+pub mod FewSteps
 pub mod NoneWithdrawn
 pub mod Even
 pub mod TrueKept
+-- a ring that is enough, and a move to another
+pub mod CodesFew
+pub mod Siblings
+pub mod EnoughRing
+pub mod Moving
+pub mod GoesAlike
 -- what the colours mean: a step's turns, the cuts, the question, the theorems
 pub mod TurnsPlaces
 pub mod Turns
@@ -32,8 +42,13 @@ pub mod MixesSplit
 pub mod MixesFirst
 pub mod MixesExact
 pub mod ColoursHold
+pub mod Greys
+pub mod Screen
 -- closed instances. Claims stands before the laws in the alphabet, so it is checked before them, and a sentence that became false is refused there first
 pub mod Claims
+pub mod ClaimsRoom
 pub mod ExampleSteps
+pub mod ExampleRoom
 pub mod Example
+pub mod RoomExample
 pub mod ColoursExample

@@ -1,4 +1,5 @@
--- The engine is `theory`'s: an accepted setup is one there, each finished step is one there, and so is any number of them. Assumes nothing.
+-- The engine is `theory`'s: an accepted setup is one there, each finished step is one there, and so is any number of them. A move is none:
+-- it leaves the same snapshot there, so what was said of the steps before it is said along that equation. Assumes nothing.
 use mathlib.Core.Path.{_≡_, refl, sym, ap, ap₂, _∙_, subst}
 use mathlib.Core.Logic.{_⊎_, inl, inr, _↔_}
 use mathlib.Core.Bool.{Bool, true, false, _&&_}
@@ -14,7 +15,7 @@ use Rattle.theory.specs.Runs.{Snapshot, AcceptedSetup, FinishedStep, FinishedSt
 use Rattle.theory.specs.Demand3.{anyGivesUp, WasGivenUp}
 use Rattle.image.specs.Cell.{meanings, meaningOf}
 use Rattle.queue.specs.declared.Block.{Block}
-use Rattle.decide.specs.declared.Picture.{Picture}
+use Rattle.decide.specs.declared.Chosen.{Chosen}
 use Rattle.decide.specs.Damage.{sound}
 use Rattle.decide.specs.Children.{childrenOf}
 use Rattle.decide.specs.Verdict.{allLegal}
@@ -31,50 +32,52 @@ use Rattle.implicit.proofs.Numbers.{ready-by-number}
 use Rattle.implicit.proofs.SetupLawsRefusal.{Accepted}
 use Rattle.implicit.proofs.StepLawsWent.{step-stays}
 use Rattle.promises.specs.Chart.{Pixel, coversIn, standingAt, queuedBlocks, snapshotOf}
-use Rattle.promises.specs.Steps.{Asked, BegunAs, Steps, no-steps, then-step, gaveUpTaking, GivenUpIn, newTaking, queuedSince}
+use Rattle.promises.specs.Steps.{Asked, BegunAs, MovesTo, Steps, no-steps, then-step, then-move, gaveUpTaking, GivenUpIn, newTaking, queuedSince}
 use Rattle.promises.proofs.Covering.{Level, all-narrower}
 use Rattle.promises.proofs.CellsKept.{standing-after}
 use Rattle.promises.proofs.EventsEach.{events-each}
+use Rattle.promises.proofs.Along.{along}
 use Rattle.promises.proofs.Invariant.{Keeps, keeps-queue, block-sound, step-empty}
+use Rattle.promises.proofs.MoveKeeps.{move-keeps, kept-same}
 use Rattle.promises.proofs.StepKeeps.{took-front, left-cells, step-keeps}
 use Rattle.promises.proofs.SetupKeeps.{Begins, begins, start-keeps, start-accepted}
 
 -- a world with the picture p of which the invariant holds
-pub record Reached (p : Picture) (w : World) : Type 0 where
+pub record Reached (p : Chosen) (w : World) : Type 0 where
   pub blocks : List Block
   pub keeps : Keeps w blocks
-  pub picture : w .state .picture ≡ p
+  pub chosen : w .state .chosen ≡ p
 
 -- A STEP
 
 -- the step of `theory` that a finished step is, with what the engine checked of its block and of its verdicts
-pub record Linked (p : Picture) (w : World) (vs : List ℕ) (w′ : World) : Type 0 where
+pub record Linked (p : Chosen) (w : World) (vs : List ℕ) (w′ : World) : Type 0 where
   pub step : FinishedStep (coversIn p) false (snapshotOf p w) (snapshotOf p w′)
   pub events-are : step .events ≡ eventsOf w (step .front) vs
-  pub picture : w .state .picture ≡ p
+  pub chosen : w .state .chosen ≡ p
   pub front-sound : sound p (step .front) ≡ true
   pub enough : pixelCount p ≤ length (meanings (w .cells))
   pub verdicts : length vs ≡ length (childrenOf p (step .front))
   pub legal : allLegal (childrenOf p (step .front)) vs ≡ true
 
 -- its events by the picture alone
-pub linked-events : (p : Picture) (w : World) (vs : List ℕ) (w′ : World) (l : Linked p w vs w′)
+pub linked-events : (p : Chosen) (w : World) (vs : List ℕ) (w′ : World) (l : Linked p w vs w′)
     → l .step .events ≡ eventsFor p (l .step .front) (childrenOf p (l .step .front)) (outcomes p (meanings (w .cells)) (childrenOf p (l .step .front)) vs)
-linked-events p w vs w′ l = l .events-are ∙ rw (l .picture)
+linked-events p w vs w′ l = l .events-are ∙ rw (l .chosen)
 
 module _ (w : World) (c : Block) (rest : List Block) (k : Keeps w (c ∷ rest)) (vs : List ℕ) where
   -- both coordinates of all blocks concerned have one level
   front-level : Level c
-  front-level = is-sound (w .state .picture) c (block-sound w c rest k) .block .ranks
+  front-level = is-sound (w .state .chosen) c (block-sound w c rest k) .block .ranks
 
   events-level : EachEvent Level (eventsOf w c vs)
   events-level =
-      events-each Level (λ d n h. h) (w .state .picture) c (childrenOf (w .state .picture) c) (outcomesOf w c vs)
-      (each-also (ChildPlace (w .state .picture) c) Level (λ d h. h .ranks) (childrenOf (w .state .picture) c) (children-placed (w .state .picture) c (block-sound w c rest k)))
+      events-each Level (λ d n h. h) (w .state .chosen) c (childrenOf (w .state .chosen) c) (outcomesOf w c vs)
+      (each-also (ChildPlace (w .state .chosen) c) Level (λ d h. h .ranks) (childrenOf (w .state .chosen) c) (children-placed (w .state .chosen) c (block-sound w c rest k)))
 
-  pub linked : (left : World) (evals bytes : ℕ) → stepOf w vs ≡ finished left evals bytes → Linked (w .state .picture) w vs left
+  pub linked : (left : World) (evals bytes : ℕ) → stepOf w vs ≡ finished left evals bytes → Linked (w .state .chosen) w vs left
   linked left evals bytes e =
-      let p = w .state .picture in
+      let p = w .state .chosen in
       let t = took-front w c rest k vs left evals bytes e in
       let k′ = step-keeps w c rest k vs left evals bytes e in
       let is = keeps-queue w (c ∷ rest) k in
@@ -94,14 +97,14 @@ module _ (w : World) (c : Block) (rest : List Block) (k : Keeps w (c ∷ rest)) 
               ∙ rw (left-cells w c rest k vs (t .room) (t .numbers), ← number) (standing-after p c front-level (w .state .taken) q (w .state .queued) (eventsOf w c vs) (meanings (w .cells)) enough events-level);
         };
         events-are = refl;
-        picture = refl;
+        chosen = refl;
         front-sound = block-sound w c rest k;
         enough = enough;
         verdicts = t .verdicts;
         legal = t .legal;
       }
 
-module _ (p : Picture) (w : World) (h : Reached p w) (vs : List ℕ) (left : World) (evals bytes : ℕ) (e : stepOf w vs ≡ finished left evals bytes) where
+module _ (p : Chosen) (w : World) (h : Reached p w) (vs : List ℕ) (left : World) (evals bytes : ℕ) (e : stepOf w vs ≡ finished left evals bytes) where
   -- a step on an empty queue is not finished
   none-finished : {P : Type 0} → Keeps w [] → P
   none-finished k = let f = step-empty w k false vs in let z : _≡_ {A = ℕ} 0 1 = cc in absurd (omega arith)
@@ -114,7 +117,7 @@ module _ (p : Picture) (w : World) (h : Reached p w) (vs : List ℕ) (left : Wor
       go (c ∷ rest) k = record {
         blocks = rest ++ newBlocks w c vs;
         keeps = step-keeps w c rest k vs left evals bytes e;
-        picture = step-stays false w vs left evals bytes e .picture ∙ h .picture;
+        chosen = step-stays false w vs left evals bytes e .chosen ∙ h .chosen;
       }
 
   pub step-linked : Linked p w vs left
@@ -122,19 +125,40 @@ module _ (p : Picture) (w : World) (h : Reached p w) (vs : List ℕ) (left : Wor
     where
       go : (q : List Block) → Keeps w q → Linked p w vs left
       go [] k = none-finished k
-      go (c ∷ rest) k = subst (λ (o : Picture). Linked o w vs left) (h .picture) (linked w c rest k vs left evals bytes e)
+      go (c ∷ rest) k = subst (λ (o : Chosen). Linked o w vs left) (h .chosen) (linked w c rest k vs left evals bytes e)
 
--- ANY NUMBER OF STEPS
+-- A MOVE
 
-module _ (p : Picture) {w : World} (h : Reached p w) where
+module _ (p : Chosen) (w : World) (h : Reached p w) (w′ : World) (m : MovesTo w w′) where
+  pub move-reached : Reached p w′
+  move-reached = let k = move-keeps m (h .blocks) (h .keeps) in record { blocks = h .blocks; keeps = k .keeps; chosen = k .chosen ∙ h .chosen }
+
+  pub move-same : snapshotOf p w ≡ snapshotOf p w′
+  move-same = kept-same p w (h .blocks) w′ (h .keeps) (move-keeps m (h .blocks) (h .keeps))
+
+-- ANY NUMBER OF STEPS, with moves between them
+
+-- n steps of `theory` from s on, by their end
+abbrev pub StepsFrom : (p : Chosen) → ℕ → Snapshot Block (Pixel p) → Snapshot Block (Pixel p) → Type 0
+StepsFrom p n s t = FinishedSteps (coversIn p) false n s t
+
+module _ (p : Chosen) {w : World} (h : Reached p w) where
   pub steps-reached : {n : ℕ} {w′ : World} → Steps n w w′ → Reached p w′
   steps-reached no-steps = h
   steps-reached (then-step {w′ = w′} {w″ = w″} r vs evals bytes e) = step-reached p w′ (steps-reached r) vs w″ evals bytes e
+  steps-reached (then-move {w′ = w′} {w″ = w″} r m) = move-reached p w′ (steps-reached r) w″ m
 
   -- the steps of `theory` that they are
   unfoldable pub in-theory : {n : ℕ} {w′ : World} → Steps n w w′ → FinishedSteps (coversIn p) false n (snapshotOf p w) (snapshotOf p w′)
   in-theory no-steps = no-step
   in-theory (then-step {w′ = w′} {w″ = w″} r vs evals bytes e) = one-more (in-theory r) (step-linked p w′ (steps-reached r) vs w″ evals bytes e .step)
+  in-theory (then-move {n = n} {w′ = w′} {w″ = w″} r m) = subst (StepsFrom p n (snapshotOf p w)) (move-same p w′ (steps-reached r) w″ m) (in-theory r)
+
+  -- what is said of them before a move is said of them after it
+  unfoldable pub over-move : {n : ℕ} {w′ w″ : World} (r : Steps n w w′) (m : MovesTo w′ w″)
+      (P : (s : Snapshot Block (Pixel p)) → StepsFrom p n (snapshotOf p w) s → Type 0) → P (snapshotOf p w′) (in-theory r) → P (snapshotOf p w″) (in-theory (then-move r m))
+  unfolding in-theory
+  over-move {n = n} {w′ = w′} {w″ = w″} r m P = along (StepsFrom p n (snapshotOf p w)) P (move-same p w′ (steps-reached r) w″ m) (in-theory r)
 
   -- what holds of each finished step holds of each of them
   pub each-linked : (P : (s s′ : Snapshot Block (Pixel p)) → FinishedStep (coversIn p) false s s′ → Type 0)
@@ -143,6 +167,7 @@ module _ (p : Picture) {w : World} (h : Reached p w) where
   unfolding EveryStep in-theory
   each-linked P f no-steps = tt
   each-linked P f (then-step {w′ = w′} {w″ = w″} r vs evals bytes e) = (each-linked P f r, f w′ w″ vs (step-linked p w′ (steps-reached r) vs w″ evals bytes e))
+  each-linked P f (then-move r m) = over-move r m (λ s x. EveryStep (coversIn p) false P x) (each-linked P f r)
 
   -- what they queue is what the engine queues
   queued-one : (v v′ : World) (vs : List ℕ) (l : Linked p v vs v′) → queuedBy (l .step .events) ≡ newTaking v vs (queuedBlocks v)
@@ -153,6 +178,7 @@ module _ (p : Picture) {w : World} (h : Reached p w) where
   unfolding queuedIn queuedSince in-theory
   queued-as no-steps = refl
   queued-as (then-step {w′ = w′} {w″ = w″} r vs evals bytes e) = ap₂ _++_ (queued-as r) (queued-one w′ w″ vs (step-linked p w′ (steps-reached r) vs w″ evals bytes e))
+  queued-as (then-move r m) = over-move r m (λ s x. queuedIn (coversIn p) false x ≡ queuedSince r) (queued-as r)
 
   -- what they give up is what the engine gives up
   both-tests : (a b : Bool) → (T a × T b) ↔ T (a && b)
@@ -175,34 +201,39 @@ module _ (p : Picture) {w : World} (h : Reached p w) where
       either : {A B C D : Type 0} → (A → B) → (C → D) → A ⊎ C → B ⊎ D
       either f g (inl a) = inl (f a)
       either f g (inr c) = inr (g c)
+  given-up-as (then-move r m) q = over-move r m (λ s x. WasGivenUp (coversIn p) false x q ↔ GivenUpIn p r q) (given-up-as r q)
 
 -- THE SETUP
 
 module _ (a : Asked) (w : World) (z : BegunAs a w) where
-  begun-by : Begins (a .picture) (a .ranges) (a .ring) (a .cells) (w .state)
+  pub begun-by : Begins (a .chosen) (a .ranges) (a .ring) (a .cells) (w .state)
   begun-by =
-      begins (a .picture) (a .ranges) (a .ring) (a .cells) (w .state)
-      (ready-by-number (startedAnswer (a .picture) (a .ranges) (length (a .ring)) (length (a .cells))) (w .state) (z .accepted) (z .state))
+      begins (a .chosen) (a .ranges) (a .ring) (a .cells) (w .state)
+      (ready-by-number (startedAnswer (a .chosen) (a .ranges) (length (a .ring)) (length (a .cells))) (w .state) (z .accepted) (z .state))
 
   -- what it has passed, and what it queued
-  pub begun-passed : Accepted (a .picture) (a .ranges) (length (a .ring)) (length (a .cells))
+  pub begun-passed : Accepted (a .chosen) (a .ranges) (length (a .ring)) (length (a .cells))
   begun-passed = begun-by .passed
 
-  pub begun-reached : Reached (a .picture) w
+  pub begun-reached : Reached (a .chosen) w
   unfolding startRecord
   begun-reached =
       let b = begun-by in
       record {
-        blocks = firstBlocks (a .picture) (a .ranges);
-        keeps = rw (b .state, z .ring ∙ b .ring-is, z .cells ∙ b .cells-are) (start-keeps (a .picture) (a .ranges) (a .ring) (a .cells) (z .held) (b .passed));
-        picture = ap (λ (s : State). s .picture) (b .state);
+        blocks = firstBlocks (a .chosen) (a .ranges);
+        keeps = rw (b .state, z .ring ∙ b .ring-is, z .cells ∙ b .cells-are) (start-keeps (a .chosen) (a .ranges) (a .ring) (a .cells) (z .held) (b .passed));
+        chosen = ap (λ (s : State). s .chosen) (b .state);
       }
 
-  pub begun-accepted : AcceptedSetup (coversIn (a .picture)) (snapshotOf (a .picture) w)
+  -- the invariant holds of what it leaves, and of every world that steps and moves reach from there
+  pub reached-by : {n : ℕ} {w′ : World} → Steps n w w′ → Reached (a .chosen) w′
+  reached-by r = steps-reached (a .chosen) begun-reached r
+
+  pub begun-accepted : AcceptedSetup (coversIn (a .chosen)) (snapshotOf (a .chosen) w)
   begun-accepted =
       let b = begun-by in
-      rw (b .state, z .ring ∙ b .ring-is, z .cells ∙ b .cells-are) (start-accepted (a .picture) (a .ranges) (a .ring) (a .cells) (z .held) (b .passed))
+      rw (b .state, z .ring ∙ b .ring-is, z .cells ∙ b .cells-are) (start-accepted (a .chosen) (a .ranges) (a .ring) (a .cells) (z .held) (b .passed))
 
-  pub begun-queue : queuedBlocks w ≡ firstBlocks (a .picture) (a .ranges)
+  pub begun-queue : queuedBlocks w ≡ firstBlocks (a .chosen) (a .ranges)
   unfolding begun-reached
-  begun-queue = keeps-queue w (firstBlocks (a .picture) (a .ranges)) (begun-reached .keeps)
+  begun-queue = keeps-queue w (firstBlocks (a .chosen) (a .ranges)) (begun-reached .keeps)

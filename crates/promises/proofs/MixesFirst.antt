@@ -17,7 +17,7 @@ use Rattle.queue.specs.declared.directions.Direction.the-variants as D
 use Rattle.queue.specs.Directions.{inUse}
 use Rattle.queue.specs.Block.{wholeLine, isInteger, parameterOf, withParameter, settledAt}
 use Rattle.queue.specs.Code.{legalIfUsed}
-use Rattle.decide.specs.declared.Picture.{Picture}
+use Rattle.decide.specs.declared.Chosen.{Chosen}
 use Rattle.implicit.specs.declared.state.Ranges.{Ranges}
 use Rattle.implicit.specs.Setup.{startLevel, rootBlock, eachCutFirst, cutFirstIn, firstBlocks, rangesLegal}
 use Rattle.implicit.proofs.SetupLawsLevel.{level-width, level-height}
@@ -108,7 +108,7 @@ module _ (M : Measures) (a : Mix M) where
 
   -- ---- all of them
 
-  module _ (p : Picture) (r : Ranges) (Solves : Mix M → Type 0) (wide : p .width ≤ 32768) (high : p .height ≤ 32768) (ranges : rangesLegal (p .set) r ≡ true)
+  module _ (p : Chosen) (r : Ranges) (Solves : Mix M → Type 0) (wide : p .width ≤ 32768) (high : p .height ≤ 32768) (ranges : rangesLegal (p .set) r ≡ true)
       (format : InFormat (r .m) × InFormat (r .n) × InFormat (r .theta) × InFormat (r .t)) (q : Pixel p) where
     abbrev Q : Question Block (Pixel p)
     Q = questionOf M p r Solves

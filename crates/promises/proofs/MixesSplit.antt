@@ -21,7 +21,7 @@ use Rattle.queue.specs.declared.directions.Direction.the-variants as D
 use Rattle.queue.specs.declared.directions.DirectionAt.{DirectionAt}
 use Rattle.queue.specs.declared.directions.DirectionAt.the-variants as A
 use Rattle.queue.specs.Block.{isInteger, parameterOf, withParameter}
-use Rattle.decide.specs.declared.Picture.{Picture}
+use Rattle.decide.specs.declared.Chosen.{Chosen}
 use Rattle.decide.specs.Damage.{sound, directionOf}
 use Rattle.decide.specs.Children.{quartersOf, beginsInside, keptInside, childrenXY, childrenCut, childrenAlong, childrenOf}
 use Rattle.plan.proofs.Each.{Each, each-also}
@@ -88,7 +88,7 @@ module _ (M : Measures) where
   later-held D.Theta v f h a k = later-integer-holds v f h (a .theta) k
   later-held D.T v f h a k = later-real-holds (M .AtMost) (λ x. M .ofUnits (inUnits x)) units-put v h f (M .in-order) (a .t) k
 
-  module _ (p : Picture) (r : Ranges) (Solves : Mix M → Type 0) where
+  module _ (p : Chosen) (r : Ranges) (Solves : Mix M → Type 0) where
     abbrev Q : Question Block (Pixel p)
     Q = questionOf M p r Solves
 

@@ -1,12 +1,12 @@
 -- No call on a world of which the invariant holds is refused by 8; and which refusals are left to a step by its verdicts. Assumes nothing.
 use mathlib.Core.Path.{_≡_, refl, sym, ap, _∙_}
 use mathlib.Core.Logic.{_⊎_, inl, inr}
-use mathlib.Core.Bool.{Bool, true, false, cond, not, true≢false}
+use mathlib.Core.Bool.{Bool, true, false, cond, not, _&&_, true≢false}
 use mathlib.Core.List.{List, [], _∷_}
 use Prim.Native.Nat.{ℕ, _+_, _-_, _*_, _/_, _%_, _^_, _≤_, _<_}
 use native.Mathlib.Decide.{decLt}
 use native.Mathlib.Omega.{arith}
-use lib.Dec.{leb}
+use lib.Dec.{leb, ltb}
 use lib.ListN.{length, take, getD}
 use lib.Seq.{take-all}
 use borrow.Author.Tests.{le-leb, lt-ltb, le-ltb, eq-eqb, ne-eqb}
@@ -20,16 +20,17 @@ use Rattle.image.proofs.RangeLaws.{cell-pixel, beyond-not-held, whole-in-pictur
 use Rattle.image.proofs.CountLaws.{held-every}
 use Rattle.queue.specs.declared.Block.{Block}
 use Rattle.queue.specs.Block.{remembered}
-use Rattle.decide.specs.declared.Picture.{Picture}
+use Rattle.decide.specs.declared.Chosen.{Chosen}
 use Rattle.decide.specs.Children.{childrenOf}
 use Rattle.implicit.specs.declared.state.State.{State}
 use Rattle.implicit.specs.declared.state.Drawn.the-variants as Drawn
 use Rattle.implicit.specs.declared.state.Ending.{Ending}
 use Rattle.implicit.specs.declared.state.Ending.the-variants as E
-use Rattle.implicit.specs.Record.{pixelCount, pixelCells, soundRecord}
+use Rattle.implicit.specs.Record.{refusedUnless, pixelCount, pixelCells, soundRecord}
 use Rattle.implicit.specs.Listing.{listedBlock, childrenListed}
 use Rattle.implicit.specs.Step.{World, StepEnd, finished, unless, newBlocks, newBytes, judged, stepWith, stepOf, stepAnswer}
 use Rattle.implicit.specs.Run.{RunEnd, RunAnswer, notRun, hasRun, runOf, runAnswer}
+use Rattle.implicit.specs.Move.{movedWorld, notMoved, moved, moveOf}
 use Rattle.implicit.specs.View.{pictureAnswer, countsAnswer}
 use Rattle.implicit.specs.Answers.{stepNumber, stopNumber, runNumber, runStop, childrenNumber, drawnNumber, countsNumber}
 use Rattle.implicit.proofs.RecordLaws.{sound-record}
@@ -44,7 +45,7 @@ use Rattle.promises.proofs.RunSteps.{run-steps, run-stops}
 -- A STEP
 
 -- the number of a step's end, where it is not that of this refusal, is that of what follows
-not-by : (s : State) (k : ℕ) (why : Refusal) (t : Bool) (rest : StepEnd) → ¬ (number why ≡ k) → ¬ (stepNumber (stepAnswer s rest) ≡ k) → ¬ (stepNumber (stepAnswer s (unless why t rest)) ≡ k)
+pub not-by : (s : State) (k : ℕ) (why : Refusal) (t : Bool) (rest : StepEnd) → ¬ (number why ≡ k) → ¬ (stepNumber (stepAnswer s rest) ≡ k) → ¬ (stepNumber (stepAnswer s (unless why t rest)) ≡ k)
 unfolding unless
 not-by s k why true rest n m = m
 not-by s k why false rest n m = n
@@ -76,7 +77,7 @@ right-refused : (w : World) (q : List Block) → Keeps w q → (vs : List ℕ) �
 unfolding LegalVerdicts judged unless
 right-refused w [] k vs r = rw (step-empty w k false vs) (inr (inr (inr (refl, refl))))
 right-refused w (c ∷ rest) k vs r =
-    let cs = childrenOf (w .state .picture) c in
+    let cs = childrenOf (w .state .chosen) c in
     let own : take (length cs) vs ≡ vs = take-all (length cs) vs (omega (arith, r .0)) in
     rw (step-passes w c rest k false vs, eq-eqb (length vs) (length cs) (r .0), own, r .1)
     (numbers-or-room (w .state) (c ∷ rest) (leb (w .state .queued + length (newBlocks w c vs)) (2 ^ 32)) (leb (used′ w c rest k + length (newBytes w c vs)) (length (w .ring))) _ _ _)
@@ -85,13 +86,13 @@ right-refused w (c ∷ rest) k vs r =
 wrong-refused : (w : World) (q : List Block) → Keeps w q → (vs : List ℕ) → WrongCount w vs q → stepNumber (stepAnswer (w .state) (stepOf w vs)) ≡ 4
 unfolding WrongCount unless
 wrong-refused w [] k vs r = absurd r
-wrong-refused w (c ∷ rest) k vs r = rw (step-passes w c rest k false vs, ne-eqb (length vs) (length (childrenOf (w .state .picture) c)) r)
+wrong-refused w (c ∷ rest) k vs r = rw (step-passes w c rest k false vs, ne-eqb (length vs) (length (childrenOf (w .state .chosen) c)) r)
 
 illegal-refused : (w : World) (q : List Block) → Keeps w q → (vs : List ℕ) → SomeIllegal w vs q → stepNumber (stepAnswer (w .state) (stepOf w vs)) ≡ 5
 unfolding SomeIllegal judged unless
 illegal-refused w [] k vs r = absurd r
 illegal-refused w (c ∷ rest) k vs r =
-    let cs = childrenOf (w .state .picture) c in
+    let cs = childrenOf (w .state .chosen) c in
     let own : take (length cs) vs ≡ vs = take-all (length cs) vs (omega (arith, r .0)) in
     rw (step-passes w c rest k false vs, eq-eqb (length vs) (length cs) (r .0), own, r .1)
 
@@ -101,7 +102,7 @@ suffices-goes : (w : World) (q : List Block) → Keeps w q → (vs : List ℕ) �
 unfolding LegalVerdicts Suffices
 suffices-goes w [] k vs r s = absurd s
 suffices-goes w (c ∷ rest) k vs r s =
-    let cs = childrenOf (w .state .picture) c in
+    let cs = childrenOf (w .state .chosen) c in
     let own : take (length cs) vs ≡ vs = take-all (length cs) vs (omega (arith, r .0)) in
     let n : w .state .taken < w .state .queued = omega (arith, k .count) in (
       _,
@@ -114,7 +115,7 @@ suffices-goes w (c ∷ rest) k vs r s =
 -- THE OTHER CALLS
 
 -- all cells of the pixels are undamaged
-pixels-fine : (p : Picture) (cells : List ℕ) → pixelCount p ≤ length cells → PixelsWhole p (meanings cells) → someOf isDamaged (pixelCells p cells) ≡ false
+pixels-fine : (p : Chosen) (cells : List ℕ) → pixelCount p ≤ length cells → PixelsWhole p (meanings cells) → someOf isDamaged (pixelCells p cells) ≡ false
 pixels-fine p cells h k =
     not-damaged isDamaged (pixelCells p cells)
     (held-every (λ c. not (isDamaged c)) (p .width) (wholePicture (p .width) (p .height)) (meanings cells) (Named 0)
@@ -132,18 +133,18 @@ module _ (w : World) (q : List Block) (k : Keeps w q) where
   own-ring : soundRecord (w .state .len) (w .state) ≡ true
   own-ring = ap (λ (n : ℕ). soundRecord n (w .state)) (sound-record (length (w .ring)) (w .state) (k .sound-record) .ring) ∙ k .sound-record
 
-  enough-test : leb (pixelCount (w .state .picture)) (length (w .cells)) ≡ true
-  enough-test = le-leb (pixelCount (w .state .picture)) (length (w .cells)) (k .enough)
+  enough-test : leb (pixelCount (w .state .chosen)) (length (w .cells)) ≡ true
+  enough-test = le-leb (pixelCount (w .state .chosen)) (length (w .cells)) (k .enough)
 
   -- with room it is drawn
-  pub picture-drawn : (room : ℕ) → pixelCount (w .state .picture) ≤ room → pictureAnswer (w .state) (w .cells) room ≡ Drawn.Done
+  pub picture-drawn : (room : ℕ) → pixelCount (w .state .chosen) ≤ room → pictureAnswer (w .state) (w .cells) room ≡ Drawn.Done
   unfolding pictureAnswer
   picture-drawn room h =
-      rw (own-ring, enough-test, le-leb (pixelCount (w .state .picture)) room h, pixels-fine (w .state .picture) (w .cells) (k .enough) (k .whole))
+      rw (own-ring, enough-test, le-leb (pixelCount (w .state .chosen)) room h, pixels-fine (w .state .chosen) (w .cells) (k .enough) (k .whole))
 
   picture-not-eight : (room : ℕ) → ¬ (drawnNumber (pictureAnswer (w .state) (w .cells) room) ≡ 8)
   unfolding pictureAnswer
-  picture-not-eight room e = go (leb (pixelCount (w .state .picture)) room) (rw (own-ring, enough-test, pixels-fine (w .state .picture) (w .cells) (k .enough) (k .whole)) at e)
+  picture-not-eight room e = go (leb (pixelCount (w .state .chosen)) room) (rw (own-ring, enough-test, pixels-fine (w .state .chosen) (w .cells) (k .enough) (k .whole)) at e)
     where
       go : (t : Bool) → ¬ (drawnNumber (cond t Drawn.Done (Drawn.Refused R.Picture)) ≡ 8)
       go true f = omega arith
@@ -151,7 +152,7 @@ module _ (w : World) (q : List Block) (k : Keeps w q) where
 
   counts-not-eight : ¬ (countsNumber (countsAnswer (w .state) (w .cells)) ≡ 8)
   unfolding countsAnswer
-  counts-not-eight e = let f = rw (own-ring, enough-test, pixels-fine (w .state .picture) (w .cells) (k .enough) (k .whole)) at e in omega (arith, f)
+  counts-not-eight e = let f = rw (own-ring, enough-test, pixels-fine (w .state .chosen) (w .cells) (k .enough) (k .whole)) at e in omega (arith, f)
 
   run-not-eight : (budget : ℕ) (tape : List ℕ) → ¬ (runNumber (runAnswer (w .state) (runOf budget w tape)) ≡ 8)
   unfolding runOf
@@ -167,8 +168,16 @@ children-not-eight w (c ∷ rest) k e =
     let f = rw (k .sound-record, lt-ltb (w .state .taken) (w .state .queued) n, front-is w c rest k, k .undamaged-all .0) at e in
     omega (arith, f)
 
+move-not-eight : (w : World) (q : List Block) → Keeps w q → (ring : List ℕ) (why : Refusal) → moveOf w ring ≡ notMoved why → ¬ (number why ≡ 8)
+unfolding moveOf
+move-not-eight w q k ring why e n = go (ltb 0 (length ring) && leb (w .state .used) (length ring)) (rw (k .sound-record) at e)
+  where
+    go : (t : Bool) → refusedUnless (notMoved R.Room) t (moved (movedWorld w ring)) ≡ notMoved why → ⊥
+    go true f = let z : _≡_ {A = ℕ} 0 1 = cc in omega arith
+    go false f = let g : R.Room ≡ why = cc in let m : 6 ≡ number why = ap number g in omega (arith, m, n)
+
 -- what stops a run is a step on what the steps before it left
-stop-not-eight : (p : Picture) (w : World) → Reached p w → (budget : ℕ) (tape : List ℕ) → ¬ (runStop (runAnswer (w .state) (runOf budget w tape)) ≡ 8)
+stop-not-eight : (p : Chosen) (w : World) → Reached p w → (budget : ℕ) (tape : List ℕ) → ¬ (runStop (runAnswer (w .state) (runOf budget w tape)) ≡ 8)
 stop-not-eight p w h budget tape = ran (runOf budget w tape) refl
   where
     ended : (e : RunEnd) → runOf budget w tape ≡ hasRun e → (g : Ending) → e .ending ≡ g → ¬ (stopNumber g ≡ 8)
@@ -186,7 +195,7 @@ stop-not-eight p w h budget tape = ran (runOf budget w tape) refl
 
 -- NO CALL
 
-pub never-eight : (p : Picture) (w : World) → Reached p w → NeverEight w
+pub never-eight : (p : Chosen) (w : World) → Reached p w → NeverEight w
 never-eight p w h =
     let k = h .keeps in
     record {
@@ -196,9 +205,10 @@ never-eight p w h =
       children = children-not-eight w (h .blocks) k;
       picture = picture-not-eight w (h .blocks) k;
       counts = counts-not-eight w (h .blocks) k;
+      move = move-not-eight w (h .blocks) k;
     }
 
-module _ (p : Picture) (w : World) (h : Reached p w) (vs : List ℕ) where
+module _ (p : Chosen) (w : World) (h : Reached p w) (vs : List ℕ) where
   abbrev is : queuedBlocks w ≡ h .blocks
   is = keeps-queue w (h .blocks) (h .keeps)
 

@@ -12,7 +12,7 @@ use lib.ListN.{length, getD}
 use Rattle.base.proofs.Test.{≡→T, cases}
 use Rattle.base.specs.Event.{Event, marks}
 use Rattle.theory.specs.Cells.{isTrue}
-use Rattle.theory.specs.Demand3.{anyGivesUp, LooksBeforeGivingUp, GivesUpOnePixel}
+use Rattle.theory.specs.Demand3.{anyGivesUp, LooksBeforeGivingUp, GivesUpOnePixel, GivesUpBelow}
 use Rattle.theory.proofs.Theorems as Theory
 use Rattle.image.specs.Cell.{Cell, Named, meanings, isMarked}
 use Rattle.image.specs.Range.{holdsCell, rectangleOf}
@@ -21,7 +21,7 @@ use Rattle.image.proofs.RangeLaws.{cell-pixel, beyond-not-held, rectangle-in-pi
 use Rattle.queue.specs.declared.Block.{Block}
 use Rattle.queue.specs.declared.directions.Direction.the-variants as D
 use Rattle.queue.specs.Directions.{inUse}
-use Rattle.decide.specs.declared.Picture.{Picture}
+use Rattle.decide.specs.declared.Chosen.{Chosen}
 use Rattle.decide.specs.declared.turn.Turned.{Turned}
 use Rattle.decide.specs.declared.turn.Turned.the-variants as Tu
 use Rattle.decide.specs.declared.verdict.Outcome.{Outcome}
@@ -64,7 +64,7 @@ found test t i (c ∷ l) e = go (t i) refl (test c) refl (found test t (suc i) l
     go false kept b fails ih e = later (ih e)
 
 -- a block of which not all covered cells are True covers a pixel that is not
-pub not-all-true : (p : Picture) (b : Block) (l : List Cell) → Level b → p .width * p .height ≤ length l → allTrue p b l ≡ false
+pub not-all-true : (p : Chosen) (b : Block) (l : List Cell) → Level b → p .width * p .height ≤ length l → allTrue p b l ≡ false
     → (q : Pixel p) × T (coversIn p b q) × (¬ (standingAt p l q ≡ isTrue))
 unfolding allTrue heldCells standingAt
 not-all-true p b l even enough e =
@@ -93,7 +93,7 @@ nothing-given : (es : List (Event Block)) → es ≡ [] → ¬ T (anyGivesUp es)
 unfolding anyGivesUp
 nothing-given es e t = rw e at t
 
-pub looks : (p : Picture) (w w′ : World) (vs : List ℕ) (l : Linked p w vs w′) → LooksBeforeGivingUp (coversIn p) false (snapshotOf p w) (snapshotOf p w′) (l .step)
+pub looks : (p : Chosen) (w w′ : World) (vs : List ℕ) (l : Linked p w vs w′) → LooksBeforeGivingUp (coversIn p) false (snapshotOf p w) (snapshotOf p w′) (l .step)
 unfolding LooksBeforeGivingUp
 looks p w w′ vs l g =
     let b = l .step .front in
@@ -127,19 +127,24 @@ marks-give-none (c ∷ cs) (o ∷ os) es = go (isMarking o) (marks-give-none cs 
     go true ih = ih
     go false ih = ih
 
--- such a child is on the floor, so its parent covers one pixel at most
+-- such a child is on the floor, so its parent lies on a pixel's level or below, and covers one pixel at most
 low-parent : (b c : Block) → Lies b c → c .x .rank ≤ 16 → b .x .rank ≤ 48
 low-parent b c (stays i) h = rw (← i .x) (omega arith)
 low-parent b c (quarters q) h = omega (arith, q .x-rank)
 
-pub one-pixel : (p : Picture) → inUse (p .set) D.XY ≡ true → (w w′ : World) (vs : List ℕ) (l : Linked p w vs w′)
-    → GivesUpOnePixel (coversIn p) false (snapshotOf p w) (snapshotOf p w′) (l .step)
-unfolding GivesUpOnePixel eventsFor
-one-pixel p u w w′ vs l g =
+pub gives-up-low : (p : Chosen) → inUse (p .set) D.XY ≡ true → (w w′ : World) (vs : List ℕ) (l : Linked p w vs w′)
+    → GivesUpBelow (coversIn p) false (λ b. b .x .rank) 48 (snapshotOf p w) (snapshotOf p w′) (l .step)
+unfolding GivesUpBelow eventsFor
+gives-up-low p u w w′ vs l g =
     let b = l .step .front in
     let cs = childrenOf p b in
     let os = outcomes p (meanings (w .cells)) cs vs in
     let e : anyGivesUp (l .step .events) ≡ anyGivesUp (turnEvents (turned p b (openCount os)) cs os) =
     ap anyGivesUp (linked-events p w vs w′ l) ∙ marks-give-none cs os (turnEvents (turned p b (openCount os)) cs os) in
     let (c, i, n) = given-child (Lies b) (turned p b (openCount os)) cs os (children-lie p b (l .front-sound)) (rw e at g) in
-    Theory.low-covers-at-most-one (p .width) (p .height) 48 placeOf b (low-parent b c i (nowhere-floor p b (openCount os) c u n))
+    low-parent b c i (nowhere-floor p b (openCount os) c u n)
+
+pub one-pixel : (p : Chosen) → inUse (p .set) D.XY ≡ true → (w w′ : World) (vs : List ℕ) (l : Linked p w vs w′)
+    → GivesUpOnePixel (coversIn p) false (snapshotOf p w) (snapshotOf p w′) (l .step)
+unfolding GivesUpOnePixel GivesUpBelow
+one-pixel p u w w′ vs l g = Theory.low-covers-at-most-one (p .width) (p .height) 48 placeOf (l .step .front) (gives-up-low p u w w′ vs l g)

@@ -15,7 +15,7 @@ use Rattle.queue.specs.declared.Block.{Block}
 use Rattle.queue.specs.declared.directions.Direction.the-variants as D
 use Rattle.queue.specs.declared.directions.DirectionAt.the-variants as A
 use Rattle.queue.specs.Directions.{usedOf, directions, directionAt}
-use Rattle.decide.specs.declared.Picture.{Picture}
+use Rattle.decide.specs.declared.Chosen.{Chosen}
 use Rattle.decide.specs.Damage.{sound, directionOf, directionRight}
 use Rattle.decide.specs.Children.{childrenOf}
 use Rattle.plan.specs.Plan.{outcomes}
@@ -31,11 +31,11 @@ use Rattle.promises.proofs.TurnsPlaces.{children-places}
 
 -- THE ONE DIRECTION
 
-plane-directions : (p : Picture) → PlaneOnly p → directions (p .set) ≡ D.XY ∷ []
+plane-directions : (p : Chosen) → PlaneOnly p → directions (p .set) ≡ D.XY ∷ []
 unfolding directions usedOf Every
 plane-directions p o = rw (o .plane, o .no-parameter .0, o .no-parameter .1 .0, o .no-parameter .1 .1 .0, o .no-parameter .1 .1 .1 .0)
 
-pub plane-along : (p : Picture) (b : Block) → PlaneOnly p → sound p b ≡ true → directionOf p b ≡ A.Along D.XY
+pub plane-along : (p : Chosen) (b : Block) → PlaneOnly p → sound p b ≡ true → directionOf p b ≡ A.Along D.XY
 plane-along p b o ok = go (b .dir) refl (is-sound p b ok .block .directed)
   where
     go : (n : ℕ) → b .dir ≡ n → directionRight p b (directionOf p b) ≡ true → directionAt (directions (p .set)) (b .dir) ≡ A.Along D.XY
@@ -47,11 +47,11 @@ plane-along p b o ok = go (b .dir) refl (is-sound p b ok .block .directed)
         absurd (false≢true g)
 
 -- every undamaged block is above the floor
-pub plane-above : (p : Picture) (b : Block) → PlaneOnly p → sound p b ≡ true → ordinaryFloor < b .x .rank
+pub plane-above : (p : Chosen) (b : Block) → PlaneOnly p → sound p b ≡ true → ordinaryFloor < b .x .rank
 plane-above p b o ok = ltb-true ordinaryFloor (b .x .rank) (cut-along p b D.XY ok (plane-along p b o ok) refl)
 
 -- A STEP QUEUES NOTHING BUT QUARTERS
-pub plane-queues : (p : Picture) → PlaneOnly p → (w w′ : World) (vs : List ℕ) (l : Linked p w vs w′)
+pub plane-queues : (p : Chosen) → PlaneOnly p → (w w′ : World) (vs : List ℕ) (l : Linked p w vs w′)
     → QueuesChildren (coversIn p) false placeOf (quarters 48 (p .width) (p .height)) (snapshotOf p w) (snapshotOf p w′) (l .step)
 unfolding QueuesChildren
 plane-queues p o w w′ vs l =

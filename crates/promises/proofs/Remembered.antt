@@ -14,7 +14,7 @@ use Rattle.queue.specs.Block.{remembered, startingLast}
 use Rattle.queue.specs.Queue.{memory}
 use Rattle.queue.proofs.RoundTrip.{ParameterFine, CanQueue}
 use Rattle.queue.proofs.QueueLaws.{Every}
-use Rattle.decide.specs.declared.Picture.{Picture}
+use Rattle.decide.specs.declared.Chosen.{Chosen}
 use Rattle.decide.specs.Damage.{undamaged}
 use Rattle.plan.proofs.Each.{Each}
 use Rattle.implicit.specs.Record.{soundLast, putLast}
@@ -47,7 +47,7 @@ unfolding memory
 memory-put set last [] h k = h
 memory-put set last (b ∷ q) h k = memory-put set (remembered b) q (remembered-put set b (k .0)) (k .1)
 
-pub memory-sound : (p : Picture) (last : Last) (q : List Block) → soundLast last ≡ true → Each (λ b. undamaged p b ≡ true) q → soundLast (memory last q) ≡ true
+pub memory-sound : (p : Chosen) (last : Last) (q : List Block) → soundLast last ≡ true → Each (λ b. undamaged p b ≡ true) q → soundLast (memory last q) ≡ true
 unfolding memory
 memory-sound p last [] h k = h
 memory-sound p last (b ∷ q) h k = memory-sound p (remembered b) q (remembered-sound p b (k .0)) (k .1)

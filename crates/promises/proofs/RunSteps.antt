@@ -19,35 +19,41 @@ use Rattle.implicit.specs.Step.{World, StepEnd, refused, finished, unless, enou
 use Rattle.implicit.specs.Run.{RunEnd, endedAs, notRun, hasRun, goneOn, emptyEnding, runFrom, runOf}
 use Rattle.implicit.proofs.StepLawsWent.{Went, went, step-few}
 use Rattle.implicit.proofs.RunLaws.{Finished, none, then, run-finished}
-use Rattle.promises.specs.Steps.{Steps, no-steps, then-step, verdictsOf, evaluationsOf}
+use Rattle.promises.specs.Steps.{Steps, no-steps, then-step, then-move, NoMove, verdictsOf, evaluationsOf}
 
 -- CHAINS
 
--- steps before steps, with the verdicts and the evaluations of both
+-- steps before steps, with the verdicts, the evaluations and the moves of both
+follow : {n m : ℕ} {w w′ w″ : World} (k : ℕ) → k ≡ n + m → (r : Steps n w w′) (r′ : Steps m w′ w″)
+    → (s : Steps k w w″) × (verdictsOf s ≡ verdictsOf r ++ verdictsOf r′) × (evaluationsOf s ≡ evaluationsOf r + evaluationsOf r′)
+    × (NoMove r → NoMove r′ → NoMove s)
+unfolding verdictsOf evaluationsOf NoMove
+follow {n} k h r no-steps = let f : k ≡ n = omega arith in rw f (r, sym (append-nil (verdictsOf r)), omega arith, (λ a b. a))
+follow {n} k h r (then-step {n = m} r′ vs evals bytes e) =
+    let f : k ≡ suc (n + m) = omega arith in
+    let (s, v, c, alone) = follow (n + m) refl r r′ in
+    rw f (then-step s vs evals bytes e, ap (λ (l : List ℕ). l ++ vs) v ∙ append-assoc (verdictsOf r) (verdictsOf r′) vs, omega (arith, c), alone)
+follow k h r (then-move r′ m) = let (s, v, c, alone) = follow k h r r′ in (then-move s m, v, c, (λ a b. absurd b))
+
 pub steps-follow : {n m : ℕ} {w w′ w″ : World} (k : ℕ) → k ≡ n + m → (r : Steps n w w′) (r′ : Steps m w′ w″)
     → (s : Steps k w w″) × (verdictsOf s ≡ verdictsOf r ++ verdictsOf r′) × (evaluationsOf s ≡ evaluationsOf r + evaluationsOf r′)
-unfolding verdictsOf evaluationsOf
-steps-follow {n} k h r no-steps = let f : k ≡ n = omega arith in rw f (r, sym (append-nil (verdictsOf r)), omega arith)
-steps-follow {n} k h r (then-step {n = m} r′ vs evals bytes e) =
-    let f : k ≡ suc (n + m) = omega arith in
-    let (s, v, c) = steps-follow (n + m) refl r r′ in
-    rw f (then-step s vs evals bytes e, ap (λ (l : List ℕ). l ++ vs) v ∙ append-assoc (verdictsOf r) (verdictsOf r′) vs, omega (arith, c))
+steps-follow k h r r′ = let (s, v, c, alone) = follow k h r r′ in (s, v, c)
 
 -- A STEP ON A TAPE is a step on the verdicts that it takes
 
 module _ (tape : Bool) (w : World) (vs : List ℕ) (left : World) (evals bytes : ℕ) (g : Went tape w vs left evals bytes) where
   -- what a step comes to once the block is taken, with enough verdicts
-  judged-alike : (tape′ : Bool) (vs′ : List ℕ) → enoughVerdicts tape′ (length (childrenOf (w .state .picture) (g .block))) (length vs′) ≡ true
-      → stepWith tape′ w vs′ ≡ judged w (g .block) (g .last) (g .head) (g .used) (take (length (childrenOf (w .state .picture) (g .block))) vs′)
+  judged-alike : (tape′ : Bool) (vs′ : List ℕ) → enoughVerdicts tape′ (length (childrenOf (w .state .chosen) (g .block))) (length vs′) ≡ true
+      → stepWith tape′ w vs′ ≡ judged w (g .block) (g .last) (g .head) (g .used) (take (length (childrenOf (w .state .chosen) (g .block))) vs′)
   unfolding stepWith opened unless
   judged-alike tape′ vs′ e =
-      rw (g .sound-record, le-leb (pixelCount (w .state .picture)) (length (w .cells)) (g .cells-enough), g .not-empty, g .front-read, g .undamaged-block, e)
+      rw (g .sound-record, le-leb (pixelCount (w .state .chosen)) (length (w .cells)) (g .cells-enough), g .not-empty, g .front-read, g .undamaged-block, e)
 
 pub tape-step : (w : World) (tape : List ℕ) (left : World) (evals bytes : ℕ) → tapeStepOf w tape ≡ finished left evals bytes
     → stepOf w (take bytes tape) ≡ finished left evals bytes
 tape-step w tape left evals bytes e =
     let g = went true w tape left evals bytes e in
-    let n = length (childrenOf (w .state .picture) (g .block)) in
+    let n = length (childrenOf (w .state .chosen) (g .block)) in
     let long : n ≤ length tape = leb-true n (length tape) (g .enough) in
     let short : length (take n tape) ≡ n = length-take-le n tape long in
     let same : take n (take n tape) ≡ take n tape = take-all n (take n tape) (omega arith) in
@@ -63,37 +69,41 @@ record Took (w : World) (tape : List ℕ) (steps evals bytes : ℕ) (left : Worl
   verdicts : verdictsOf all ≡ take bytes tape
   cost : evaluationsOf all ≡ evals
   within : bytes ≤ length tape
+  alone : NoMove all
 
 finished-steps : {w left : World} {tape : List ℕ} {steps evals bytes : ℕ} → Finished w tape steps evals bytes left → Took w tape steps evals bytes left
-unfolding verdictsOf evaluationsOf
-finished-steps none = record { all = no-steps; verdicts = refl; cost = refl; within = omega arith }
+unfolding verdictsOf evaluationsOf NoMove
+finished-steps none = record { all = no-steps; verdicts = refl; cost = refl; within = omega arith; alone = tt }
 finished-steps (then {w = w} {next = next} {tape = tape} {evals = evals} {bytes = bytes} {steps = steps} {bytes′ = bytes′} e f) =
     let t = finished-steps f in
     let one : Steps 1 w next = then-step no-steps (take bytes tape) evals bytes (tape-step w tape next evals bytes e) in
-    let (s, v, c) = steps-follow (suc steps) (omega arith) one (t .all) in
+    let (s, v, c, alone) = follow (suc steps) (omega arith) one (t .all) in
     record {
       all = s;
       verdicts = v ∙ ap (λ (l : List ℕ). take bytes tape ++ l) (t .verdicts) ∙ sym (take-add bytes bytes′ tape);
       cost = omega (arith, c, t .cost);
       within = omega (arith, step-few true w tape next evals bytes e .1, t .within, length-drop bytes tape);
+      alone = alone tt (t .alone);
     }
 
 -- THE RUN
 
--- a run's end is what steps under the tape's first bytes leave
+-- a run's end is what steps under the tape's first bytes leave, with no move among them
 abbrev pub Leaves : World → List ℕ → RunEnd → Type 0
-Leaves w tape e = (r : Steps (e .steps) w (e .world)) × (verdictsOf r ≡ take (e .tape) tape) × (length (verdictsOf r) ≡ e .tape) × (evaluationsOf r ≡ e .evaluations)
+Leaves w tape e =
+    (r : Steps (e .steps) w (e .world)) × (verdictsOf r ≡ take (e .tape) tape) × (length (verdictsOf r) ≡ e .tape) × (evaluationsOf r ≡ e .evaluations)
+    × NoMove r
 
 run-from-steps : (budget : ℕ) (w : World) (tape : List ℕ) → Leaves w tape (runFrom budget w tape)
 run-from-steps budget w tape =
     let t = finished-steps (run-finished budget w tape) in
-    (t .all, t .verdicts, ap length (t .verdicts) ∙ length-take-le (runFrom budget w tape .tape) tape (t .within), t .cost)
+    (t .all, t .verdicts, ap length (t .verdicts) ∙ length-take-le (runFrom budget w tape .tape) tape (t .within), t .cost, t .alone)
 
-has-run : (budget : ℕ) (w : World) (tape : List ℕ) (e : RunEnd) → runOf budget w tape ≡ hasRun e → e ≡ runFrom budget w tape
+pub has-run : (budget : ℕ) (w : World) (tape : List ℕ) (e : RunEnd) → runOf budget w tape ≡ hasRun e → e ≡ runFrom budget w tape
 unfolding runOf
 has-run budget w tape e h =
     cases (soundRecord (length (w .ring)) (w .state))
-    (λ i. cases (leb (pixelCount (w .state .picture)) (length (w .cells)))
+    (λ i. cases (leb (pixelCount (w .state .chosen)) (length (w .cells)))
     (λ j. (let k : hasRun (runFrom budget w tape) ≡ hasRun e = rw (i, j) at h in let f : runFrom budget w tape ≡ e = cc in sym f))
     (λ j. not-run _ (rw (i, j) at h)))
     (λ i. not-run _ (rw i at h))
@@ -108,11 +118,11 @@ run-steps budget w tape e h = rw (has-run budget w tape e h) (run-from-steps bud
 abbrev StopsBy : Refusal → RunEnd → Type 0
 StopsBy why e = e .ending ≡ E.Stop why → (rest : List ℕ) × (tapeStepOf (e .world) rest ≡ refused why)
 
-empty-stops : (why : Refusal) (t : Bool) {P : Type 0} → cond t E.Limit E.Done ≡ E.Stop why → P
+pub empty-stops : (why : Refusal) (t : Bool) {P : Type 0} → cond t E.Limit E.Done ≡ E.Stop why → P
 empty-stops why true e = let z : _≡_ {A = ℕ} 0 1 = cc in absurd (omega arith)
 empty-stops why false e = let z : _≡_ {A = ℕ} 0 1 = cc in absurd (omega arith)
 
-more-stops : (why : Refusal) {P : Type 0} → E.More ≡ E.Stop why → P
+pub more-stops : (why : Refusal) {P : Type 0} → E.More ≡ E.Stop why → P
 more-stops why e = let z : _≡_ {A = ℕ} 0 1 = cc in absurd (omega arith)
 
 gone-stops : (why : Refusal) (left : ℕ) (w : World) (tape : List ℕ) (s : StepEnd) → tapeStepOf w tape ≡ s
@@ -123,11 +133,11 @@ gone-stops why left w tape (finished next evals bytes) e ih f = ih next bytes f
 stops : (why : Refusal) (budget : ℕ) (w : World) (tape : List ℕ) → StopsBy why (runFrom budget w tape)
 unfolding runFrom
 stops why zero w tape =
-    by-test (StopsBy why) (queueEmpty (w .state)) (endedAs w (emptyEnding (w .state .picture) (w .cells))) (endedAs w E.More)
-    (λ e f. empty-stops why (someOf isGivenUp (pixelCells (w .state .picture) (w .cells))) f) (λ e f. more-stops why f)
+    by-test (StopsBy why) (queueEmpty (w .state)) (endedAs w (emptyEnding (w .state .chosen) (w .cells))) (endedAs w E.More)
+    (λ e f. empty-stops why (someOf isGivenUp (pixelCells (w .state .chosen) (w .cells))) f) (λ e f. more-stops why f)
 stops why (suc left) w tape =
-    by-test (StopsBy why) (queueEmpty (w .state)) (endedAs w (emptyEnding (w .state .picture) (w .cells))) (goneOn w (tapeStepOf w tape) (λ next bytes. runFrom left next (drop bytes tape)))
-    (λ e f. empty-stops why (someOf isGivenUp (pixelCells (w .state .picture) (w .cells))) f)
+    by-test (StopsBy why) (queueEmpty (w .state)) (endedAs w (emptyEnding (w .state .chosen) (w .cells))) (goneOn w (tapeStepOf w tape) (λ next bytes. runFrom left next (drop bytes tape)))
+    (λ e f. empty-stops why (someOf isGivenUp (pixelCells (w .state .chosen) (w .cells))) f)
     (λ e. gone-stops why left w tape (tapeStepOf w tape) refl (λ v n. stops why left v (drop n tape)))
 
 pub run-stops : (budget : ℕ) (w : World) (tape : List ℕ) (e : RunEnd) (why : Refusal) → runOf budget w tape ≡ hasRun e → e .ending ≡ E.Stop why

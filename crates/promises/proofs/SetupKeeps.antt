@@ -27,7 +27,7 @@ use Rattle.queue.proofs.RoundTrip.{CanQueue}
 use Rattle.queue.proofs.RingLaws.{content-length, content-store}
 use Rattle.queue.proofs.KeptLaws.{known-start}
 use Rattle.queue.proofs.QueueLaws.{BytesHold, holds-none, holds-append, codes-some}
-use Rattle.decide.specs.declared.Picture.{Picture}
+use Rattle.decide.specs.declared.Chosen.{Chosen}
 use Rattle.decide.specs.Damage.{legalSide, undamaged}
 use Rattle.plan.proofs.Each.{Each, each-also}
 use Rattle.implicit.specs.declared.state.State.{State}
@@ -50,7 +50,7 @@ use Rattle.promises.proofs.Invariant.{Keeps, keeps-queue}
 -- WHAT AN ANSWER TELLS
 
 -- an answer with a record: the setup was accepted, and the record, the ring and the cells are the starting ones
-pub record Begins (p : Picture) (r : Ranges) (ring cells : List ℕ) (s : State) : Type 0 where
+pub record Begins (p : Chosen) (r : Ranges) (ring cells : List ℕ) (s : State) : Type 0 where
   pub passed : Accepted p r (length ring) (length cells)
   pub state : s ≡ startRecord p r (length ring)
   pub ring-is : ringBegun p r ring cells ≡ startRing p r ring
@@ -59,7 +59,7 @@ pub record Begins (p : Picture) (r : Ranges) (ring cells : List ℕ) (s : State)
 refused-not : {P : Type 0} (why : _) (s : State) → S.Refused why ≡ S.Ready s → P
 refused-not why s e = let z : _≡_ {A = ℕ} 0 1 = cc in absurd (omega arith)
 
-pub begins : (p : Picture) (r : Ranges) (ring cells : List ℕ) (s : State) → startedAnswer p r (length ring) (length cells) ≡ S.Ready s → Begins p r ring cells s
+pub begins : (p : Chosen) (r : Ranges) (ring cells : List ℕ) (s : State) → startedAnswer p r (length ring) (length cells) ≡ S.Ready s → Begins p r ring cells s
 unfolding startedAnswer setupRefusal ringBegun cellsBegun
 begins p r ring cells s e =
     cases (legalSide (p .width) && legalSide (p .height))
@@ -84,7 +84,7 @@ empty-list : (l : List ℕ) → length l ≡ 0 → l ≡ []
 empty-list [] e = refl
 empty-list (n ∷ l) e = absurd (omega arith)
 
-module _ (p : Picture) (r : Ranges) (ring cells : List ℕ) (held : RangesHeld r) (ok : Accepted p r (length ring) (length cells)) where
+module _ (p : Chosen) (r : Ranges) (ring cells : List ℕ) (held : RangesHeld r) (ok : Accepted p r (length ring) (length cells)) where
   abbrev start : World
   start = worldOf (startRecord p r (length ring)) (startRing p r ring) (startCells p r cells)
 
@@ -125,7 +125,7 @@ module _ (p : Picture) (r : Ranges) (ring cells : List ℕ) (held : RangesHeld r
       let n = first-count p r held (ok .ranges) in
       let b = some-bytes in
       record {
-        picture = record { width-some = ok .width-some; width-most = ok .width-most; height-some = ok .height-some; height-most = ok .height-most; set-most = legal-ranges (p .set) r (ok .ranges) .set-most };
+        chosen = record { width-some = ok .width-some; width-most = ok .width-most; height-some = ok .height-some; height-most = ok .height-most; set-most = legal-ranges (p .set) r (ok .ranges) .set-most };
         order = omega arith;
         numbers = omega (arith, n .1);
         ring = refl;

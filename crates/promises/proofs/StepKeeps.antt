@@ -21,7 +21,7 @@ use Rattle.queue.proofs.RoundTrip.{CanQueue}
 use Rattle.queue.proofs.RingLaws.{length-stored, content-store}
 use Rattle.queue.proofs.QueueLaws.{BytesHold, holds-append, used-none, none-used}
 use Rattle.queue.proofs.QueueLaws as Queue
-use Rattle.decide.specs.Damage.{undamaged, legalPicture, sound}
+use Rattle.decide.specs.Damage.{undamaged, legalChosen, sound}
 use Rattle.decide.specs.Children.{childrenOf}
 use Rattle.decide.specs.Verdict.{allLegal}
 use Rattle.plan.specs.Plan.{cellsAfter}
@@ -39,8 +39,8 @@ use Rattle.promises.proofs.Invariant.{Keeps, size, head′, used′, fr
 -- WHAT A FINISHED STEP TOOK
 
 pub record TookFront (w : World) (c : Block) (rest : List Block) (k : Keeps w (c ∷ rest)) (vs : List ℕ) (left : World) : Type 0 where
-  pub verdicts : length vs ≡ length (childrenOf (w .state .picture) c)
-  pub legal : allLegal (childrenOf (w .state .picture) c) vs ≡ true
+  pub verdicts : length vs ≡ length (childrenOf (w .state .chosen) c)
+  pub legal : allLegal (childrenOf (w .state .chosen) c) vs ≡ true
   pub numbers : w .state .queued + length (newBlocks w c vs) ≤ 2 ^ 32
   pub room : used′ w c rest k + length (newBytes w c vs) ≤ length (w .ring)
   pub leaves : left ≡ worldLeft w c (remembered c) (head′ w c rest k) (used′ w c rest k) vs
@@ -55,8 +55,8 @@ took-front w c rest k vs left evals bytes e =
     let l : g .last ≡ remembered c = cc in
     let h : g .head ≡ head′ w c rest k = cc in
     let u : g .used ≡ used′ w c rest k = cc in
-    let n : length vs ≡ length (childrenOf (w .state .picture) c) = eqb-true (length vs) (length (childrenOf (w .state .picture) c)) (rw b at (g .enough)) in
-    let o : g .own ≡ vs = g .own-is ∙ take-all (length (childrenOf (w .state .picture) (g .block))) vs (rw b (omega arith)) in
+    let n : length vs ≡ length (childrenOf (w .state .chosen) c) = eqb-true (length vs) (length (childrenOf (w .state .chosen) c)) (rw b at (g .enough)) in
+    let o : g .own ≡ vs = g .own-is ∙ take-all (length (childrenOf (w .state .chosen) (g .block))) vs (rw b (omega arith)) in
     record {
       verdicts = n;
       legal = rw (b, o) at (g .legal);
@@ -70,28 +70,28 @@ took-front w c rest k vs left evals bytes e =
 
 module _ (w : World) (c : Block) (rest : List Block) (k : Keeps w (c ∷ rest)) (vs : List ℕ) where
   abbrev set : ℕ
-  set = w .state .picture .set
+  set = w .state .chosen .set
 
   -- each new block is undamaged and can be queued
-  new-each : Each (λ d. (sound (w .state .picture) d ≡ true) × CanQueue (w .state .picture .set) d) (newBlocks w c vs)
-  new-each = queued-sound (w .state .picture) c (block-sound w c rest k) (outcomesOf w c vs) (k .holds .all .0 .fine)
+  new-each : Each (λ d. (sound (w .state .chosen) d ≡ true) × CanQueue (w .state .chosen .set) d) (newBlocks w c vs)
+  new-each = queued-sound (w .state .chosen) c (block-sound w c rest k) (outcomesOf w c vs) (k .holds .all .0 .fine)
 
-  new-undamaged : Each (λ d. undamaged (w .state .picture) d ≡ true) (newBlocks w c vs)
+  new-undamaged : Each (λ d. undamaged (w .state .chosen) d ≡ true) (newBlocks w c vs)
   new-undamaged =
-      each-also (λ d. (sound (w .state .picture) d ≡ true) × CanQueue (w .state .picture .set) d) (λ d. undamaged (w .state .picture) d ≡ true)
-      (λ d h. and-right (legalPicture (w .state .picture)) (undamaged (w .state .picture) d) (h .0)) (newBlocks w c vs) new-each
+      each-also (λ d. (sound (w .state .chosen) d ≡ true) × CanQueue (w .state .chosen .set) d) (λ d. undamaged (w .state .chosen) d ≡ true)
+      (λ d h. and-right (legalChosen (w .state .chosen)) (undamaged (w .state .chosen) d) (h .0)) (newBlocks w c vs) new-each
 
-  new-can : Queue.Every (CanQueue (w .state .picture .set)) (newBlocks w c vs)
+  new-can : Queue.Every (CanQueue (w .state .chosen .set)) (newBlocks w c vs)
   new-can =
-      each-queue (CanQueue (w .state .picture .set)) (newBlocks w c vs)
-      (each-also (λ d. (sound (w .state .picture) d ≡ true) × CanQueue (w .state .picture .set) d) (CanQueue (w .state .picture .set)) (λ d h. h .1) (newBlocks w c vs) new-each)
+      each-queue (CanQueue (w .state .chosen .set)) (newBlocks w c vs)
+      (each-also (λ d. (sound (w .state .chosen) d ≡ true) × CanQueue (w .state .chosen .set) d) (CanQueue (w .state .chosen .set)) (λ d h. h .1) (newBlocks w c vs) new-each)
 
   -- what the writer remembers is put
   back-put : Put (w .state .back)
-  back-put = rw (k .holds .back-is) (memory-put (w .state .picture .set) (w .state .front) (c ∷ rest) (k .front-put) (k .holds .all))
+  back-put = rw (k .holds .back-is) (memory-put (w .state .chosen .set) (w .state .front) (c ∷ rest) (k .front-put) (k .holds .all))
 
-  bytes-are : newBytes w c vs ≡ queueCodes (w .state .picture .set) (w .state .back) (newBlocks w c vs)
-  bytes-are = ap (λ (l : Last). queueCodes (w .state .picture .set) l (newBlocks w c vs)) back-put
+  bytes-are : newBytes w c vs ≡ queueCodes (w .state .chosen .set) (w .state .back) (newBlocks w c vs)
+  bytes-are = ap (λ (l : Last). queueCodes (w .state .chosen .set) l (newBlocks w c vs)) back-put
 
   head-in : head′ w c rest k < length (w .ring)
   head-in =
@@ -110,7 +110,7 @@ module _ (w : World) (c : Block) (rest : List Block) (k : Keeps w (c ∷ rest)) 
     ring-length = length-stored (newBytes w c vs) (w .ring) (wrapped (length (w .ring)) (head′ w c rest k + used′ w c rest k))
 
     -- the bytes hold the rest and the new ones behind it
-    left-holds : BytesHold (w .state .picture .set) (remembered c) (memory (putLast (w .state .back)) (newBlocks w c vs))
+    pub left-holds : BytesHold (w .state .chosen .set) (remembered c) (memory (putLast (w .state .back)) (newBlocks w c vs))
         (content ring′ (head′ w c rest k) (used′ w c rest k + length (newBytes w c vs))) (rest ++ newBlocks w c vs)
     left-holds =
         rw (content-store (newBytes w c vs) (w .ring) (head′ w c rest k) (used′ w c rest k) head-in room, bytes-are, back-put)
@@ -127,12 +127,12 @@ module _ (w : World) (c : Block) (rest : List Block) (k : Keeps w (c ∷ rest)) 
 
     -- no byte is used exactly if no block waits
     empty-both : (used n m : ℕ) (q : List Block) {front back : Last} → fitsRing (length ring′) (head′ w c rest k) used ≡ true
-        → BytesHold (w .state .picture .set) front back (content ring′ (head′ w c rest k) used) q → n + length q ≡ m → eqb used 0 ≡ eqb n m
+        → BytesHold (w .state .chosen .set) front back (content ring′ (head′ w c rest k) used) q → n + length q ≡ m → eqb used 0 ≡ eqb n m
     empty-both used n m [] f h e =
-        eq-eqb used 0 (none-used ring′ (head′ w c rest k) used (w .state .picture .set) f h) ∙ sym (eq-eqb n m (omega arith))
+        eq-eqb used 0 (none-used ring′ (head′ w c rest k) used (w .state .chosen .set) f h) ∙ sym (eq-eqb n m (omega arith))
     empty-both used n m (b ∷ q) f h e =
         both-ways (eqb used 0) (eqb n m)
-        (λ t. absurd (nonempty (used-none ring′ (head′ w c rest k) used (w .state .picture .set) f h (eqb-true used 0 t))))
+        (λ t. absurd (nonempty (used-none ring′ (head′ w c rest k) used (w .state .chosen .set) f h (eqb-true used 0 t))))
         (λ t. absurd (omega (arith, eqb-true n m t)))
       where
         nonempty : ¬ (b ∷ q ≡ [])
@@ -144,38 +144,38 @@ module _ (w : World) (c : Block) (rest : List Block) (k : Keeps w (c ∷ rest)) 
         let f = sound-record (length (w .ring)) (w .state) (k .sound-record) in
         let n = ring-length in
         record {
-          picture = f .picture;
+          chosen = f .chosen;
           order = omega (arith, left-count);
           numbers = numbers;
           ring = f .ring ∙ sym ring-length;
           head = rw ring-length head-in;
           used = rw ring-length room;
           empty = empty-both (used′ w c rest k + length (newBytes w c vs)) (w .state .taken + 1) (w .state .queued + length (newBlocks w c vs)) (rest ++ newBlocks w c vs) left-fits left-holds left-count;
-          front = sound-last (remembered c) (remembered-sound (w .state .picture) c (k .undamaged-all .0));
+          front = sound-last (remembered c) (remembered-sound (w .state .chosen) c (k .undamaged-all .0));
           back = sound-last (memory (putLast (w .state .back)) (newBlocks w c vs))
-              (memory-sound (w .state .picture) (putLast (w .state .back)) (newBlocks w c vs) (put-last-sound (w .state .back) ∙ last-sound (w .state .back) (f .back)) new-undamaged);
+              (memory-sound (w .state .chosen) (putLast (w .state .back)) (newBlocks w c vs) (put-last-sound (w .state .back) ∙ last-sound (w .state .back) (f .back)) new-undamaged);
         }
 
     -- the cells afterwards mean what the events made of them
-    pub left-cells : meanings (left .cells) ≡ cellsAfter (w .state .picture) c (w .state .taken) (w .state .queued) (eventsOf w c vs) (meanings (w .cells))
+    pub left-cells : meanings (left .cells) ≡ cellsAfter (w .state .chosen) c (w .state .taken) (w .state .queued) (eventsOf w c vs) (meanings (w .cells))
     unfolding worldLeft
     left-cells =
-        codes-back (cellsAfter (w .state .picture) c (w .state .taken) (w .state .queued) (eventsOf w c vs) (meanings (w .cells)))
-        (coded-after (w .state .picture) c (w .state .taken) (w .state .queued) (eventsOf w c vs) (meanings (w .cells)) numbers (meanings-coded (w .cells)))
+        codes-back (cellsAfter (w .state .chosen) c (w .state .taken) (w .state .queued) (eventsOf w c vs) (meanings (w .cells)))
+        (coded-after (w .state .chosen) c (w .state .taken) (w .state .queued) (eventsOf w c vs) (meanings (w .cells)) numbers (meanings-coded (w .cells)))
 
     pub left-keeps : length (left .cells) ≡ length (w .cells) → Keeps left (rest ++ newBlocks w c vs)
     unfolding worldLeft
     left-keeps same =
-        let enough : w .state .picture .width * w .state .picture .height ≤ length (meanings (w .cells)) = rw (L.length-map (w .cells) meaningOf) (k .enough) in
+        let enough : w .state .chosen .width * w .state .chosen .height ≤ length (meanings (w .cells)) = rw (L.length-map (w .cells) meaningOf) (k .enough) in
         record {
           sound-record = record-sound (length ring′) (left .state) left-record;
           enough = rw same (k .enough);
           holds = left-holds;
           count = left-count;
-          undamaged-all = each-append (λ b. undamaged (w .state .picture) b ≡ true) rest (newBlocks w c vs) (k .undamaged-all .1) new-undamaged;
+          undamaged-all = each-append (λ b. undamaged (w .state .chosen) b ≡ true) rest (newBlocks w c vs) (k .undamaged-all .1) new-undamaged;
           whole = rw left-cells
-              (whole-after (w .state .picture) c (w .state .taken) (w .state .queued) (eventsOf w c vs) (meanings (w .cells)) enough (k .whole));
-          front-put = remembered-put (w .state .picture .set) c (k .holds .all .0);
+              (whole-after (w .state .chosen) c (w .state .taken) (w .state .queued) (eventsOf w c vs) (meanings (w .cells)) enough (k .whole));
+          front-put = remembered-put (w .state .chosen .set) c (k .holds .all .0);
         }
 
 -- A FINISHED STEP KEEPS IT

@@ -21,33 +21,33 @@ use Rattle.promises.proofs.NoneWithdrawn.{looks, one-pixel}
 use Rattle.promises.proofs.Even.{begun-even, even-steps, even-alike}
 
 module _ (a : Asked) {w₀ : World} (z : BegunAs a w₀) {n : ℕ} {w : World} (r₀ : Steps n w₀ w) where
-  abbrev start : Reached (a .picture) w
-  start = steps-reached (a .picture) (begun-reached a w₀ z) r₀
+  abbrev start : Reached (a .chosen) w
+  start = steps-reached (a .chosen) (begun-reached a w₀ z) r₀
 
   -- a step that gives up sees cells alike
-  alike : {m : ℕ} {w′ : World} (r : Steps m w w′) → EveryStep (coversIn (a .picture)) false (GivesUpAlike (coversIn (a .picture)) false) (in-theory (a .picture) start r)
+  alike : {m : ℕ} {w′ : World} (r : Steps m w w′) → EveryStep (coversIn (a .chosen)) false (GivesUpAlike (coversIn (a .chosen)) false) (in-theory (a .chosen) start r)
   alike r =
-      cases (inUse (a .picture .set) D.XY)
-      (λ u. Theory.alike-with-xy (coversIn (a .picture)) false (in-theory (a .picture) start r)
-      (each-linked (a .picture) start (GivesUpOnePixel (coversIn (a .picture)) false) (λ v v′ vs l. one-pixel (a .picture) u v v′ vs l) r))
+      cases (inUse (a .chosen .set) D.XY)
+      (λ u. Theory.alike-with-xy (coversIn (a .chosen)) false (in-theory (a .chosen) start r)
+      (each-linked (a .chosen) start (GivesUpOnePixel (coversIn (a .chosen)) false) (λ v v′ vs l. one-pixel (a .chosen) u v v′ vs l) r))
       (λ u. (let g = begun-passed a w₀ z in
-      even-alike (a .picture) u (g .width-most) (g .height-most) start (even-steps (a .picture) u (g .width-most) (g .height-most) (begun-reached a w₀ z) (begun-even a w₀ z u) r₀) r))
+      even-alike (a .chosen) u (g .width-most) (g .height-most) start (even-steps (a .chosen) u (g .width-most) (g .height-most) (begun-reached a w₀ z) (begun-even a w₀ z u) r₀) r))
 
-  keeps-true : {m : ℕ} {w′ : World} (r : Steps m w w′) → KeepsTrue (coversIn (a .picture)) false (in-theory (a .picture) start r)
+  keeps-true : {m : ℕ} {w′ : World} (r : Steps m w w′) → KeepsTrue (coversIn (a .chosen)) false (in-theory (a .chosen) start r)
   unfolding KeepsTrue
-  keeps-true r = inr (each-linked (a .picture) start (LooksBeforeGivingUp (coversIn (a .picture)) false) (λ v v′ vs l. looks (a .picture) v v′ vs l) r, alike r)
+  keeps-true r = inr (each-linked (a .chosen) start (LooksBeforeGivingUp (coversIn (a .chosen)) false) (λ v v′ vs l. looks (a .chosen) v v′ vs l) r, alike r)
 
-  pub true-kept : {m : ℕ} {w′ : World} → Steps m w w′ → (q : Pixel (a .picture)) → readsIn (a .picture) w q ≡ R.True → readsIn (a .picture) w′ q ≡ R.True
+  pub true-kept : {m : ℕ} {w′ : World} → Steps m w w′ → (q : Pixel (a .chosen)) → readsIn (a .chosen) w q ≡ R.True → readsIn (a .chosen) w′ q ≡ R.True
   true-kept {w′ = w′} r q e =
-      reads-both (a .picture) w′ q readsTrue .1
-      (Theory.true-stays (coversIn (a .picture)) false (in-theory (a .picture) start r) (keeps-true r) q (reads-both (a .picture) w q readsTrue .0 e))
+      reads-both (a .chosen) w′ q readsTrue .1
+      (Theory.true-stays (coversIn (a .chosen)) false (in-theory (a .chosen) start r) (keeps-true r) q (reads-both (a .chosen) w q readsTrue .0 e))
 
-  pub from-uncertain : {m : ℕ} {w′ : World} → Steps m w w′ → (q : Pixel (a .picture))
-      → (readsIn (a .picture) w′ q ≡ readsIn (a .picture) w q) ⊎ (readsIn (a .picture) w q ≡ R.Uncertain)
+  pub from-uncertain : {m : ℕ} {w′ : World} → Steps m w w′ → (q : Pixel (a .chosen))
+      → (readsIn (a .chosen) w′ q ≡ readsIn (a .chosen) w q) ⊎ (readsIn (a .chosen) w q ≡ R.Uncertain)
   from-uncertain {w′ = w′} r q =
-      go (Theory.reading-order (coversIn (a .picture)) false (begun-accepted a w₀ z) (in-theory (a .picture) (begun-reached a w₀ z) r₀) (in-theory (a .picture) start r) (keeps-true r) q)
+      go (Theory.reading-order (coversIn (a .chosen)) false (begun-accepted a w₀ z) (in-theory (a .chosen) (begun-reached a w₀ z) r₀) (in-theory (a .chosen) start r) (keeps-true r) q)
     where
-      go : (pixelReads (snapshotOf (a .picture) w′) q ≡ pixelReads (snapshotOf (a .picture) w) q) ⊎ (pixelReads (snapshotOf (a .picture) w) q ≡ readsUncertain)
-          → (readsIn (a .picture) w′ q ≡ readsIn (a .picture) w q) ⊎ (readsIn (a .picture) w q ≡ R.Uncertain)
-      go (inl e) = inl (reads-linked (a .picture) w′ q ∙ ap shown e ∙ sym (reads-linked (a .picture) w q))
-      go (inr e) = inr (reads-both (a .picture) w q readsUncertain .1 e)
+      go : (pixelReads (snapshotOf (a .chosen) w′) q ≡ pixelReads (snapshotOf (a .chosen) w) q) ⊎ (pixelReads (snapshotOf (a .chosen) w) q ≡ readsUncertain)
+          → (readsIn (a .chosen) w′ q ≡ readsIn (a .chosen) w q) ⊎ (readsIn (a .chosen) w q ≡ R.Uncertain)
+      go (inl e) = inl (reads-linked (a .chosen) w′ q ∙ ap shown e ∙ sym (reads-linked (a .chosen) w q))
+      go (inr e) = inr (reads-both (a .chosen) w q readsUncertain .1 e)

@@ -13,7 +13,7 @@ use Rattle.image.specs.declared.Op.the-variants as Op
 use Rattle.image.specs.Cell.{Cell}
 use Rattle.image.specs.Painting.{pixelCell}
 use Rattle.queue.specs.declared.Block.{Block}
-use Rattle.decide.specs.declared.Picture.{Picture}
+use Rattle.decide.specs.declared.Chosen.{Chosen}
 use Rattle.decide.specs.declared.turn.Turned.{Turned}
 use Rattle.decide.specs.declared.turn.Turned.the-variants as T
 use Rattle.decide.specs.declared.verdict.Outcome.{Outcome}
@@ -39,11 +39,11 @@ use Rattle.promises.proofs.CellsKept.{still-enough, standing-after}
 use Rattle.promises.proofs.NoneWithdrawn.{not-all-true}
 
 -- how blocks are cut: a step has checked that the block it takes is undamaged, in a legal picture; its parameters are as the queue keeps them
-abbrev pub cuttingOf : Picture → Cutting Block
+abbrev pub cuttingOf : Chosen → Cutting Block
 cuttingOf p = record { children = childrenOf p; Checked = λ b. (sound p b ≡ true) × Fine (p .set) b; Same = λ c d. d ≡ turnedTo c (d .dir) }
 
 -- what is the same but for its direction covers the same
-pub same-covers-in : (p : Picture) (c d : Block) (q : Pixel p) → d ≡ turnedTo c (d .dir) → coversIn p d q ≡ coversIn p c q
+pub same-covers-in : (p : Chosen) (c d : Block) (q : Pixel p) → d ≡ turnedTo c (d .dir) → coversIn p d q ≡ coversIn p c q
 same-covers-in p c d q e = ap (λ (b : Block). coversIn p b q) e
 
 -- ---- what a byte says
@@ -108,14 +108,14 @@ module _ (next : Block → Turned) where
 
   -- ---- children and verdicts
 
-  each : (p : Picture) (l : List Cell) (cs : List Block) (vs : List ℕ) → length vs ≡ length cs → map childOf (turnsWith next cs vs (outcomes p l cs vs)) ≡ cs
+  each : (p : Chosen) (l : List Cell) (cs : List Block) (vs : List ℕ) → length vs ≡ length cs → map childOf (turnsWith next cs vs (outcomes p l cs vs)) ≡ cs
   unfolding turnsWith outcomes childOf
   each p l [] vs h = refl
   each p l (c ∷ cs) [] h = absurd (omega arith)
   each p l (c ∷ cs) (v ∷ vs) h = ap (λ (ds : List Block). c ∷ ds) (each p _ cs vs (omega arith))
 
   -- what becomes of a child that is looked at follows from its outcome
-  follows-told : (p : Picture) → ((c d : Block) → next c ≡ T.To d → d ≡ turnedTo c (d .dir)) → (c : Block) (o : Outcome)
+  follows-told : (p : Chosen) → ((c d : Block) → next c ≡ T.To d → d ≡ turnedTo c (d .dir)) → (c : Block) (o : Outcome)
       → Follows (cuttingOf p) (turn c (saidAs o) (becomes next c o))
   unfolding Follows becomes saidAs turnsInto
   follows-told p same c O.Skipped = tt
@@ -128,13 +128,13 @@ module _ (next : Block → Turned) where
       go (T.To d) f = (refl, f d refl)
       go T.Nowhere f = refl
 
-  follows-one : (p : Picture) → ((c d : Block) → next c ≡ T.To d → d ≡ turnedTo c (d .dir)) → (c : Block) (v : ℕ) (all : Bool)
+  follows-one : (p : Chosen) → ((c d : Block) → next c ≡ T.To d → d ≡ turnedTo c (d .dir)) → (c : Block) (v : ℕ) (all : Bool)
       → Follows (cuttingOf p) (turn c (saidBy (c .x .rank) v) (becomes next c (outcomeOf (c .x .rank) v all)))
   unfolding Follows becomes
   follows-one p same c v true = tt
   follows-one p same c v false = rw (said-told (c .x .rank) v) (follows-told p same c (toldOutcome (c .x .rank) v))
 
-  follows : (p : Picture) → ((c d : Block) → next c ≡ T.To d → d ≡ turnedTo c (d .dir)) → (l : List Cell) (cs : List Block) (vs : List ℕ)
+  follows : (p : Chosen) → ((c d : Block) → next c ≡ T.To d → d ≡ turnedTo c (d .dir)) → (l : List Cell) (cs : List Block) (vs : List ℕ)
       → Every (Follows (cuttingOf p)) (turnsWith next cs vs (outcomes p l cs vs))
   unfolding Every turnsWith outcomes
   follows p same l [] vs = tt
@@ -143,7 +143,7 @@ module _ (next : Block → Turned) where
 
 -- ---- skipping
 
-module _ (p : Picture) (c : Block) (r : c .x .rank ≡ c .y .rank) (l : List Cell) (enough : p .width * p .height ≤ length l) where
+module _ (p : Chosen) (c : Block) (r : c .x .rank ≡ c .y .rank) (l : List Cell) (enough : p .width * p .height ≤ length l) where
   -- "all covered cells True", as a test and in `theory`'s words
   seen-all : allTrue p c l ≡ true → AllTrue (coversIn p) (standingAt p l) c
   unfolding AllTrue standingAt
@@ -160,7 +160,7 @@ module _ (p : Picture) (c : Block) (r : c .x .rank ≡ c .y .rank) (l : List Cel
   mark-standing q = standing-after p c r 0 q 0 (marks c ∷ []) l enough (r, tt)
 
 -- a child is skipped exactly if all its cells are True when its turn comes
-module _ (p : Picture) (next : Block → Turned) where
+module _ (p : Chosen) (next : Block → Turned) where
   -- what SkipRule asks of the child at hand and of those behind it
   skip-one : (cells : Pixel p → Standing) (c : Block) (s : Said) (o : Outcome) (ts : List (Turn Block)) → ¬ (o ≡ O.Skipped) → NotAllTrue (coversIn p) cells c
       → (isMarking o ≡ true → SkipRule (coversIn p) (λ q. cond (coversIn p c q) isTrue (cells q)) ts)
@@ -218,7 +218,7 @@ module _ (p : Picture) (next : Block → Turned) where
 
 -- ---- the step
 
-module _ (p : Picture) (b : Block) (l : List Cell) (vs : List ℕ) where
+module _ (p : Chosen) (b : Block) (l : List Cell) (vs : List ℕ) where
   abbrev os : List Outcome
   os = outcomes p l (childrenOf p b) vs
 

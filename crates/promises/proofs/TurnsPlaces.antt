@@ -14,7 +14,7 @@ use Rattle.coordinate.proofs.PixelLaws.{inside-pixel}
 use Rattle.queue.specs.declared.Block.{Block}
 use Rattle.queue.specs.declared.directions.Direction.the-variants as D
 use Rattle.queue.specs.declared.directions.DirectionAt.the-variants as A
-use Rattle.decide.specs.declared.Picture.{Picture}
+use Rattle.decide.specs.declared.Chosen.{Chosen}
 use Rattle.decide.specs.Damage.{sound, directionOf}
 use Rattle.decide.specs.Children.{movedTo, quartersOf, beginsInside, keptInside, childrenXY, childrenOf}
 use Rattle.decide.proofs.DamageLaws.{is-sound}
@@ -24,7 +24,7 @@ use Rattle.theory.specs.Shapes.{beginsIn, isListed, listedIf, quartersAt, quart
 use Rattle.promises.specs.Chart.{placeOf}
 
 -- a list of blocks with some left out, and the same of their places
-kept-quarter : (p : Picture) (b : Block) (l : List Block) (m : List Place) → map placeOf (keptInside p l) ≡ m
+kept-quarter : (p : Chosen) (b : Block) (l : List Block) (m : List Place) → map placeOf (keptInside p l) ≡ m
     → map placeOf (keptInside p (b ∷ l)) ≡ listedIf (beginsInside p b) (placeOf b) m
 unfolding keptInside listedIf
 kept-quarter p b l m e = go (beginsInside p b)
@@ -47,7 +47,7 @@ same-place x y k x′ y′ k′ e f g = rw (e, f, g)
 same-listed : (t u : Bool) (c d : Place) (l m : List Place) → t ≡ u → c ≡ d → l ≡ m → listedIf t c l ≡ listedIf u d m
 same-listed t u c d l m e f g = rw (e, f, g)
 
-module _ (p : Picture) (b : Block) (j : ℕ) (ex : b .x .rank ≡ suc j) (ey : b .y .rank ≡ suc j) where
+module _ (p : Chosen) (b : Block) (j : ℕ) (ex : b .x .rank ≡ suc j) (ey : b .y .rank ≡ suc j) where
   -- the quarter at these halves, and the quarter that is counted
   module _ (x y : Coordinate) (i k : ℕ) (xr : x .rank ≡ b .x .rank - 1) (yr : y .rank ≡ b .y .rank - 1) (xi : x .index ≡ i) (yi : y .index ≡ k) where
     lower-x : x .rank ≡ j
@@ -115,7 +115,7 @@ module _ (p : Picture) (b : Block) (j : ℕ) (ex : b .x .rank ≡ suc j) (ey : b
       rw e (four (λ x y. true) (λ x y i k xr yr xi yi. quarter-all x y i k xr yr xi yi (omega arith)))))
 
 -- the children of a sound block along xy lie at the quarters of its place
-pub children-places : (p : Picture) (b : Block) → sound p b ≡ true → directionOf p b ≡ A.Along D.XY
+pub children-places : (p : Chosen) (b : Block) → sound p b ≡ true → directionOf p b ≡ A.Along D.XY
     → map placeOf (childrenOf p b) ≡ quarters 48 (p .width) (p .height) (placeOf b)
 unfolding childrenOf
 children-places p b ok e =

@@ -1,6 +1,9 @@
 -- The words in which the engine's promises are stated.
 pub mod Chart
 pub mod Steps
+pub mod Calls
 pub mod Turns
 pub mod Mixes
 pub mod Sentences
+pub mod EnoughRoom
+pub mod Alike

@@ -18,7 +18,7 @@ use Rattle.queue.specs.declared.directions.Direction.{Direction}
 use Rattle.queue.specs.declared.directions.Direction.the-variants as D
 use Rattle.queue.specs.Directions.{inUse}
 use Rattle.queue.specs.Block.{wholeLine}
-use Rattle.decide.specs.declared.Picture.{Picture}
+use Rattle.decide.specs.declared.Chosen.{Chosen}
 use Rattle.implicit.specs.declared.state.Ranges.{Ranges}
 use Rattle.promises.specs.Chart.{Pixel, placeOf}
 
@@ -101,7 +101,7 @@ module _ (M : Measures) where
 
   -- the question: a mix is given if each used parameter lies in its range; it is one of a pixel by its position; and a block holds it by its
   -- place and by its parameters
-  abbrev pub questionOf : (p : Picture) → Ranges → (Mix M → Type 0) → Question Block (Pixel p)
+  abbrev pub questionOf : (p : Chosen) → Ranges → (Mix M → Type 0) → Question Block (Pixel p)
   questionOf p r Solves =
       record {
         Mix = Mix M;

@@ -1,5 +1,5 @@
 -- DEMAND 3, a statement for each of its sentences, and one about the colours: of a setup that was called with `a` and left the world w₀, and of the finished
--- steps after it. proofs/Promises proves them of every accepted setup; proofs/Claims computes what they say of small charts.
+-- steps after it, with moves among them. proofs/Promises proves them of every accepted setup; proofs/Claims computes what they say of small charts.
 use mathlib.Core.Path.{_≡_}
 use mathlib.Core.Logic.{_↔_}
 use mathlib.Core.List.{_++_}
@@ -21,15 +21,15 @@ module _ (a : Asked) (w₀ : World) where
   -- "A pixel reads False exactly if it isn't True, wasn't given up, and no queued block covers it."
   abbrev pub FalseRule : Type 0
   FalseRule =
-      (n : ℕ) (w : World) (r : Steps n w₀ w) (q : Pixel (a .picture))
-      → (readsIn (a .picture) w q ≡ Reads.False)
-      ↔ ((¬ (readsIn (a .picture) w q ≡ Reads.True)) × (¬ GivenUpIn (a .picture) r q) × NoneQueuedCovers (a .picture) w q)
+      (n : ℕ) (w : World) (r : Steps n w₀ w) (q : Pixel (a .chosen))
+      → (readsIn (a .chosen) w q ≡ Reads.False)
+      ↔ ((¬ (readsIn (a .chosen) w q ≡ Reads.True)) × (¬ GivenUpIn (a .chosen) r q) × NoneQueuedCovers (a .chosen) w q)
 
   -- "A pixel that reads False stays False."
   abbrev pub FalseStays : Type 0
   FalseStays =
-      (n m : ℕ) (w w′ : World) → Steps n w₀ w → Steps m w w′ → (q : Pixel (a .picture))
-      → readsIn (a .picture) w q ≡ Reads.False → readsIn (a .picture) w′ q ≡ Reads.False
+      (n m : ℕ) (w w′ : World) → Steps n w₀ w → Steps m w w′ → (q : Pixel (a .chosen))
+      → readsIn (a .chosen) w q ≡ Reads.False → readsIn (a .chosen) w′ q ≡ Reads.False
 
   -- "A block with d blocks before it has left the queue after d + 1 further finished steps": it and those before it are gone, those behind it come first,
   -- and behind them stands what was queued since. (By its place: equal blocks may be queued twice.)
@@ -42,13 +42,13 @@ module _ (a : Asked) (w₀ : World) where
   -- ceil(height / 2^j), no queued block covers more than one pixel."
   abbrev pub PixelBound : Type 0
   PixelBound =
-      PlaneOnly (a .picture) → (n : ℕ) (w : World) → Steps n w₀ w
-      → sumTo (startLevel (a .picture)) (λ i. placesAlong (a .picture .width) (suc i) * placesAlong (a .picture .height) (suc i)) ≤ n
-      → Every (CoversAtMostOne (coversIn (a .picture))) (queuedBlocks w)
+      PlaneOnly (a .chosen) → (n : ℕ) (w : World) → Steps n w₀ w
+      → sumTo (startLevel (a .chosen)) (λ i. placesAlong (a .chosen .width) (suc i) * placesAlong (a .chosen .height) (suc i)) ≤ n
+      → Every (CoversAtMostOne (coversIn (a .chosen))) (queuedBlocks w)
 
 module _ (M : Measures) (Solves : Mix M → Type 0) (a : Asked) (w₀ : World) where
   -- "if every `false` verdict was right, a pixel that reads False holds no solution"
   abbrev pub WhiteMeansNo : Type 0
   WhiteMeansNo =
-      (n : ℕ) (w : World) (r : Steps n w₀ w) → EveryAnswer (a .picture) (FalseRight (coversIn (a .picture)) (questionOf M (a .picture) (a .ranges) Solves)) r
-      → (q : Pixel (a .picture)) → readsIn (a .picture) w q ≡ Reads.False → ¬ HasSolution (questionOf M (a .picture) (a .ranges) Solves) q
+      (n : ℕ) (w : World) (r : Steps n w₀ w) → EveryAnswer (a .chosen) (FalseRight (coversIn (a .chosen)) (questionOf M (a .chosen) (a .ranges) Solves)) r
+      → (q : Pixel (a .chosen)) → readsIn (a .chosen) w q ≡ Reads.False → ¬ HasSolution (questionOf M (a .chosen) (a .ranges) Solves) q

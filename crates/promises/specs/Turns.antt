@@ -8,7 +8,7 @@ use Rattle.theory.specs.Lists.{Every}
 use Rattle.theory.specs.Colours.{Said, saidFalse, saidTrue, saidOpen, Fate, skipped, denied, marked, queuedAs, stuck, Turn, turn}
 use Rattle.image.specs.Cell.{Cell, meanings}
 use Rattle.queue.specs.declared.Block.{Block}
-use Rattle.decide.specs.declared.Picture.{Picture}
+use Rattle.decide.specs.declared.Chosen.{Chosen}
 use Rattle.decide.specs.declared.turn.Turned.{Turned}
 use Rattle.decide.specs.declared.turn.Turned.the-variants as T
 use Rattle.decide.specs.declared.verdict.Outcome.{Outcome}
@@ -18,7 +18,7 @@ use Rattle.decide.specs.Turn.{turned}
 use Rattle.plan.specs.Plan.{outcomes, openCount}
 use Rattle.implicit.specs.Step.{World}
 use Rattle.promises.specs.Chart.{queuedBlocks}
-use Rattle.promises.specs.Steps.{Steps, no-steps, then-step}
+use Rattle.promises.specs.Steps.{Steps, no-steps, then-step, then-move}
 
 -- what a verdict byte says of a child of a rank, by document 01's bits: two of result (0 false, 1 undecided, 2 true), the area bit, five points. Undecided
 -- says true if the area bit and some point are set; true does from a pixel's level up (rank 48), and below it only with the area bit
@@ -48,16 +48,17 @@ turnsWith next (c ∷ cs) (v ∷ vs) [] = []
 turnsWith next (c ∷ cs) (v ∷ vs) (o ∷ os) = turn c (saidBy (c .x .rank) v) (becomes next c o) ∷ turnsWith next cs vs os
 
 -- the turns of the step that takes block b, with the cells and the verdicts that it is given
-unfoldable pub turnsOf : Picture → Block → List Cell → List ℕ → List (Turn Block)
+unfoldable pub turnsOf : Chosen → Block → List Cell → List ℕ → List (Turn Block)
 turnsOf p b l vs =
     turnsWith (turned p b (openCount (outcomes p l (childrenOf p b) vs))) (childrenOf p b) vs (outcomes p l (childrenOf p b) vs)
 
 -- the turns of a step under these verdicts, which takes the first block of the queue
-unfoldable pub turnsTaking : Picture → World → List ℕ → List Block → List (Turn Block)
+unfoldable pub turnsTaking : Chosen → World → List ℕ → List Block → List (Turn Block)
 turnsTaking p w vs [] = []
 turnsTaking p w vs (b ∷ rest) = turnsOf p b (meanings (w .cells)) vs
 
--- of each turn of each step
-unfoldable pub EveryAnswer : Picture → (Turn Block → Type 0) → {n : ℕ} {w w′ : World} → Steps n w w′ → Type 0
+-- of each turn of each step; a move asks nothing
+unfoldable pub EveryAnswer : Chosen → (Turn Block → Type 0) → {n : ℕ} {w w′ : World} → Steps n w w′ → Type 0
 EveryAnswer p P no-steps = Unit {0}
 EveryAnswer p P (then-step {w′ = w′} r vs evals bytes e) = EveryAnswer p P r × Every P (turnsTaking p w′ vs (queuedBlocks w′))
+EveryAnswer p P (then-move r m) = EveryAnswer p P r

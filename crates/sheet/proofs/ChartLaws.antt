@@ -14,7 +14,7 @@ use Rattle.image.specs.declared.Reading.{Reading}
 use Rattle.image.specs.declared.Reading.the-variants as G
 use Rattle.image.specs.Cell.{Cell, reading, byteOf, characterOf}
 use Rattle.queue.proofs.RingLaws.{rest-all}
-use Rattle.decide.specs.Damage.{legalSide, legalSet, legalPicture}
+use Rattle.decide.specs.Damage.{legalSide, legalSet, legalChosen}
 use Rattle.implicit.specs.declared.state.State.{State}
 use Rattle.implicit.specs.declared.state.Started.{Started}
 use Rattle.implicit.specs.declared.state.Started.the-variants as S
@@ -26,11 +26,11 @@ use Rattle.implicit.specs.declared.state.Counted.the-variants as C
 use Rattle.implicit.specs.declared.state.Drawn.{Drawn}
 use Rattle.implicit.specs.declared.state.Drawn.the-variants as D
 use Rattle.implicit.specs.Record.{pixelCount, pixelCells}
-use Rattle.implicit.specs.Setup.{pictureOf, startedAnswer, ringBegun, cellsBegun}
+use Rattle.implicit.specs.Setup.{cleared, startedAnswer, ringBegun, cellsBegun}
 use Rattle.implicit.specs.Step.{World, worldOf}
 use Rattle.implicit.specs.Run.{RunAnswer, notRun, hasRun, runOf, RunsAs}
 use Rattle.implicit.specs.View.{pictureBytes, pictureLeft, pictureAnswer, ifDrawn, countsOf, countsAnswer}
-use Rattle.implicit.proofs.RecordLaws.{sound-picture}
+use Rattle.implicit.proofs.RecordLaws.{sound-chosen}
 use Rattle.implicit.proofs.ViewLaws.{Viewable, viewable-drawn, drawn-viewable, countedIf, counts-as-picture, picture-length}
 use Rattle.sheet.specs.declared.head.Order.{Order}
 use Rattle.sheet.specs.Layout.{orderIn, takenSheet}
@@ -51,12 +51,12 @@ all-shown taken (c ∷ l) = rw (symbol-shows (reading taken c), all-shown taken 
 
 pub bytes-shown : (s : State) (cells : List ℕ) → map symbolOf (pictureBytes s cells) ≡ characters s cells
 unfolding characters pictureBytes
-bytes-shown s cells = all-shown (s .taken) (pixelCells (s .picture) cells)
+bytes-shown s cells = all-shown (s .taken) (pixelCells (s .chosen) cells)
 
-pub rows-shown : (s : State) (cells rest : List ℕ) → pixelCount (s .picture) ≤ length cells
-    → rowsOf (s .picture .width) (s .picture .height) (map symbolOf (pictureBytes s cells ++ rest)) ≡ rowsOf (s .picture .width) (s .picture .height) (characters s cells)
+pub rows-shown : (s : State) (cells rest : List ℕ) → pixelCount (s .chosen) ≤ length cells
+    → rowsOf (s .chosen .width) (s .chosen .height) (map symbolOf (pictureBytes s cells ++ rest)) ≡ rowsOf (s .chosen .width) (s .chosen .height) (characters s cells)
 rows-shown s cells rest h =
-    let p = s .picture in
+    let p = s .chosen in
     ap (rowsOf (p .width) (p .height)) (map-append symbolOf (pictureBytes s cells) rest)
     ∙ rows-front (p .width) (p .height) (map symbolOf (pictureBytes s cells)) (map symbolOf rest) (length-map (pictureBytes s cells) symbolOf ∙ picture-length s cells h)
     ∙ ap (rowsOf (p .width) (p .height)) (bytes-shown s cells)
@@ -69,39 +69,39 @@ drawn-if (D.Refused why) m n e = let z : _≡_ {A = ℕ} 0 1 = cc in absurd (ome
 
 module _ (s : State) (cells : List ℕ) (n : Counts) (counted : countsAnswer s cells ≡ C.Of n) where
   -- it can be drawn
-  pub counted-viewable : Viewable s cells (pixelCount (s .picture))
-  counted-viewable = drawn-viewable s cells (pixelCount (s .picture)) (drawn-if (pictureAnswer s cells (pixelCount (s .picture))) (countsOf s cells) n (counts-as-picture s cells (pixelCount (s .picture)) refl ∙ counted))
+  pub counted-viewable : Viewable s cells (pixelCount (s .chosen))
+  counted-viewable = drawn-viewable s cells (pixelCount (s .chosen)) (drawn-if (pictureAnswer s cells (pixelCount (s .chosen))) (countsOf s cells) n (counts-as-picture s cells (pixelCount (s .chosen)) refl ∙ counted))
 
   pub counted-drawn : (room : ℕ) → length cells ≤ room → pictureAnswer s cells room ≡ D.Done
   counted-drawn room h =
       let v = counted-viewable in
       viewable-drawn s cells room (record { record-sound = v .record-sound; enough = v .enough; room-left = omega (arith, v .enough); cells-fine = v .cells-fine })
 
-  wide-enough : 1 ≤ s .picture .width
-  unfolding legalPicture
+  wide-enough : 1 ≤ s .chosen .width
+  unfolding legalChosen
   wide-enough =
-      let p = s .picture in
-      let e = sound-picture (s .len) s (counted-viewable .record-sound) in
+      let p = s .chosen in
+      let e = sound-chosen (s .len) s (counted-viewable .record-sound) in
       let w = legalSide (p .width) in
       leb-true 1 (p .width) (and-left _ _ (and-left w (legalSide (p .height)) (and-left (w && legalSide (p .height)) (legalSet (p .set)) e)))
 
   -- its rows are few
-  pub counted-room : length cells ≡ 4096 → (s .picture .width * s .picture .height ≤ 4096) × ((s .picture .width + 1) * s .picture .height ≤ 8192)
+  pub counted-room : length cells ≡ 4096 → (s .chosen .width * s .chosen .height ≤ 4096) × ((s .chosen .width + 1) * s .chosen .height ≤ 8192)
   counted-room h =
-      let w = s .picture .width in
-      let y = s .picture .height in
+      let w = s .chosen .width in
+      let y = s .chosen .height in
       let a : w * y ≤ 4096 = omega (arith, counted-viewable .enough) in
       let b : 1 * y ≤ w * y = mul-le-mul-right y wide-enough in
       (a, omega (arith, a, b))
 
   -- the picture that is drawn into a buffer shows it
   pub counted-shown : (out left : List ℕ) (d : Drawn) → length cells ≤ length out → d ≡ pictureAnswer s cells (length out) → left ≡ ifDrawn d (pictureLeft s cells out) out
-      → rowsOf (s .picture .width) (s .picture .height) (map symbolOf left) ≡ rowsOf (s .picture .width) (s .picture .height) (characters s cells)
+      → rowsOf (s .chosen .width) (s .chosen .height) (map symbolOf left) ≡ rowsOf (s .chosen .width) (s .chosen .height) (characters s cells)
   unfolding pictureLeft
   counted-shown out left d h e f =
       let g : d ≡ D.Done = e ∙ counted-drawn (length out) h in
-      let k : left ≡ pictureBytes s cells ++ drop (pixelCount (s .picture)) out = f ∙ ap (λ (x : Drawn). ifDrawn x (pictureBytes s cells ++ drop (pixelCount (s .picture)) out) out) g in
-      rw k (rows-shown s cells (drop (pixelCount (s .picture)) out) (counted-viewable .enough))
+      let k : left ≡ pictureBytes s cells ++ drop (pixelCount (s .chosen)) out = f ∙ ap (λ (x : Drawn). ifDrawn x (pictureBytes s cells ++ drop (pixelCount (s .chosen)) out) out) g in
+      rw k (rows-shown s cells (drop (pixelCount (s .chosen)) out) (counted-viewable .enough))
 
 -- WHAT EACH ANSWER PRINTS
 
@@ -128,15 +128,15 @@ module _ (w : World) (a : RunAnswer) (r : Ran) (ring cells : List ℕ) (runs : R
           let k : A.Ended (x .world .state) (x .steps) (x .evaluations) (x .tape) (x .ending) ≡ A.Refused why s = sym (h .0) ∙ e in
           let z : _≡_ {A = ℕ} 0 1 = cc in absurd (omega arith)
 
-module _ (o : Order) (tape : List ℕ) (a : Started) (is-a : a ≡ startedAnswer (pictureOf (o .width) (o .height) (o .set)) (o .ranges) (length freshRing) (length freshCells)) where
-  pub text-ready : (s : State) (ring cells : List ℕ) → a ≡ S.Ready s → ring ≡ ringBegun (pictureOf (o .width) (o .height) (o .set)) (o .ranges) freshRing freshCells
-      → cells ≡ cellsBegun (pictureOf (o .width) (o .height) (o .set)) (o .ranges) freshRing freshCells → ranText (runOf (o .budget) (worldOf s ring cells) tape) ≡ orderText o tape
+module _ (o : Order) (tape : List ℕ) (a : Started) (is-a : a ≡ startedAnswer (cleared (o .chosen)) (o .ranges) (length freshRing) (length freshCells)) where
+  pub text-ready : (s : State) (ring cells : List ℕ) → a ≡ S.Ready s → ring ≡ ringBegun (cleared (o .chosen)) (o .ranges) freshRing freshCells
+      → cells ≡ cellsBegun (cleared (o .chosen)) (o .ranges) freshRing freshCells → ranText (runOf (o .budget) (worldOf s ring cells) tape) ≡ orderText o tape
   unfolding orderText
-  text-ready s ring cells e r c = let k : startedAnswer (pictureOf (o .width) (o .height) (o .set)) (o .ranges) (length freshRing) (length freshCells) ≡ S.Ready s = sym is-a ∙ e in rw (k, r, c)
+  text-ready s ring cells e r c = let k : startedAnswer (cleared (o .chosen)) (o .ranges) (length freshRing) (length freshCells) ≡ S.Ready s = sym is-a ∙ e in rw (k, r, c)
 
   pub text-not-ready : (why : Refusal) → a ≡ S.Refused why → refusedText why ≡ orderText o tape
   unfolding orderText
-  text-not-ready why e = let k : startedAnswer (pictureOf (o .width) (o .height) (o .set)) (o .ranges) (length freshRing) (length freshCells) ≡ S.Refused why = sym is-a ∙ e in rw k
+  text-not-ready why e = let k : startedAnswer (cleared (o .chosen)) (o .ranges) (length freshRing) (length freshCells) ≡ S.Refused why = sym is-a ∙ e in rw k
 
 pub text-taken : (s tape : List ℕ) (o : Order) → takenSheet s ≡ true → o ≡ orderIn s → tape ≡ take (length s - o .tape) (drop (o .tape) s) → orderText o tape ≡ textOf s
 unfolding textOf

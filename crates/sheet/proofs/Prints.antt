@@ -1,18 +1,26 @@
 -- What a sheet prints, once it is taken: `refused 1`, `refused 3`, or the chart of its run. Neither does setup find the cells or the ring short, nor are the run
--- and its counts refused. FOR READERS: `Prints` and `taken-prints`, at the end. Assumes nothing.
-use mathlib.Core.Path.{_≡_, refl, sym, ap}
+-- and its counts refused. FOR READERS, at the end: `Prints` and
+-- `taken-prints`, and of a chart's characters `character-shows` and `dot-means-no`. Assumes nothing.
+use mathlib.Core.Path.{_≡_, refl, sym, ap, _∙_}
 use mathlib.Core.Bool.{Bool, true, false, cond, not, _&&_, true≢false}
-use mathlib.Core.List.{List, [], _∷_}
-use Prim.Native.Nat.{ℕ, _+_, _*_, _≤_}
+use mathlib.Core.List.{List, [], _∷_, _++_, map}
+use Prim.Native.Nat.{ℕ, _+_, _-_, _*_, _≤_, _<_}
 use native.Mathlib.Omega.{arith}
 use lib.Dec.{leb, eqb}
 use lib.Ieee.{binary64, fits}
 use lib.Ieee.Bits.{ofBits-fits}
-use lib.ListN.{length, drop, length-append, length-replicate}
+use lib.ListN.{length, drop, getD, length-append, length-replicate, length-map}
+use lib.Seq.{getD-append-add}
 use borrow.Author.Tests.{le-leb, ltb-false, not-true}
 use Rattle.base.proofs.Test.{cases, and-left, and-right, by-test}
 use Rattle.refusal.specs.declared.Refusal.the-variants as R
 use Rattle.interval.specs.Bounds.{InFormat}
+use Rattle.image.specs.declared.Reading.{Reading}
+use Rattle.image.specs.declared.Reading.the-variants as Reads
+use Rattle.image.specs.Cell.{Cell, Named, meanings, reading, characterOf}
+use Rattle.image.specs.Range.{cellIndex}
+use Rattle.image.specs.Painting.{pixelCell}
+use Rattle.image.proofs.RangeLaws.{cell-below}
 use Rattle.queue.specs.declared.Block.{Block}
 use Rattle.queue.specs.declared.Last.{Last}
 use Rattle.queue.specs.declared.directions.Direction.{Direction}
@@ -25,27 +33,34 @@ use Rattle.queue.proofs.QueueLaws.{Every, can-code}
 use Rattle.queue.proofs.QueueableLaws.{encode-few}
 use Rattle.queue.proofs.RoundTrip.{CanQueue, Known}
 use Rattle.queue.proofs.KeptLaws.{known-after, known-start}
-use Rattle.decide.specs.declared.Picture.{Picture}
+use Rattle.decide.specs.declared.Chosen.{Chosen}
 use Rattle.decide.specs.Damage.{legalSide}
 use Rattle.implicit.specs.declared.state.Ranges.{Ranges}
 use Rattle.implicit.specs.declared.state.Started.{Started}
 use Rattle.implicit.specs.declared.state.Started.the-variants as S
+use Rattle.implicit.specs.declared.state.State.{State}
 use Rattle.implicit.specs.declared.state.Counts.{Counts}
 use Rattle.implicit.specs.declared.state.Counted.the-variants as C
-use Rattle.implicit.specs.Record.{pixelCount, soundRecord}
-use Rattle.implicit.specs.Setup.{pictureOf, rangesLegal, firstBlocks, firstBytes, setupRefusal, startRecord, startedAnswer, ringBegun, cellsBegun}
+use Rattle.implicit.specs.Record.{pixelCount, pixelCells, soundRecord}
+use Rattle.implicit.specs.Setup.{cleared, rangesLegal, firstBlocks, firstBytes, setupRefusal, startRecord, startedAnswer, ringBegun, cellsBegun}
 use Rattle.implicit.specs.Step.{World, worldOf}
 use Rattle.implicit.specs.Run.{RunEnd, hasRun, runFrom, runOf}
 use Rattle.implicit.specs.View.{cellsFine, countsOf, countsAnswer}
 use Rattle.implicit.specs.Answers.{setupNumber, setupState, countsNumber}
+use Rattle.implicit.proofs.RecordLaws.{pixel-cells-length, pixel-cell-at}
 use Rattle.implicit.proofs.SetupLawsFirst.{every-sub}
 use Rattle.implicit.proofs.SetupLawsBlocks.{RangesHeld, FirstBlock, first-blocks, first-count, first-can}
-use Rattle.promises.specs.Steps.{Asked, BegunAs}
+use Rattle.theory.specs.Colours.{HasSolution, FalseRight}
+use Rattle.promises.specs.Chart.{Pixel, coversIn}
+use Rattle.promises.specs.Steps.{Asked, BegunAs, readsIn}
+use Rattle.promises.specs.Turns.{EveryAnswer}
+use Rattle.promises.specs.Mixes.{Measures, Mix, questionOf}
 use Rattle.promises.proofs.Linked.{begun-reached, steps-reached}
-use Rattle.promises.proofs.Promises.{never-damaged, run-reaches}
+use Rattle.promises.proofs.Promises.{never-damaged, run-reaches, white-means-no}
 use Rattle.sheet.specs.Layout.{numberIn, sheetSet, zeroBits, placesIn, boundsIn, rangeIn, rangesIn, orderIn, tooLarge, takenSheet}
-use Rattle.sheet.specs.Text.{chartText, refusedText}
+use Rattle.sheet.specs.Text.{runLine, countLine, rowsOf, characters, chartText, refusedText}
 use Rattle.sheet.specs.Printed.{freshRing, freshCells, ranText, startedText, orderText, textOf}
+use Rattle.sheet.proofs.RowLaws.{map-at, row-at}
 
 -- A SHEET'S RANGES ARE OF f64s
 
@@ -77,7 +92,7 @@ codes-few set last (b ∷ bs) k e =
     omega (arith, f, r, length-append (encode set last b) (queueCodes set (remembered b) bs))
 
 -- 81 blocks of 83 bytes at most
-first-few : (p : Picture) (r : Ranges) → RangesHeld r → rangesLegal (p .set) r ≡ true → length (firstBytes p r) ≤ 6723
+first-few : (p : Chosen) (r : Ranges) → RangesHeld r → rangesLegal (p .set) r ≡ true → length (firstBytes p r) ≤ 6723
 unfolding firstBytes
 first-few p r held ok =
     let n = first-count p r held ok in
@@ -100,7 +115,7 @@ module _ (a : Asked) {w : World} (z : BegunAs a w) (budget : ℕ) (tape : List �
   unfolding runOf
   run-begins =
       let k = begun-reached a w z .keeps in
-      rw (k .sound-record, le-leb (pixelCount (w .state .picture)) (length (w .cells)) (k .enough))
+      rw (k .sound-record, le-leb (pixelCount (w .state .chosen)) (length (w .cells)) (k .enough))
 
   counts-told : (e : RunEnd) → runOf budget w tape ≡ hasRun e → countsAnswer (e .world .state) (e .world .cells) ≡ C.Of (countsOf (e .world .state) (e .world .cells))
   unfolding countsAnswer
@@ -108,9 +123,9 @@ module _ (a : Asked) {w : World} (z : BegunAs a w) (budget : ℕ) (tape : List �
       let r = run-reaches budget w tape e h .0 in
       let s = e .world .state in
       let cells = e .world .cells in
-      let enough = steps-reached (a .picture) (begun-reached a w z) r .keeps .enough in
-      go (soundRecord (s .len) s) (leb (pixelCount (s .picture)) (length cells)) (cellsFine s cells) (countsOf s cells)
-      (le-leb (pixelCount (s .picture)) (length cells) enough) (never-damaged a z r .counts)
+      let enough = steps-reached (a .chosen) (begun-reached a w z) r .keeps .enough in
+      go (soundRecord (s .len) s) (leb (pixelCount (s .chosen)) (length cells)) (cellsFine s cells) (countsOf s cells)
+      (le-leb (pixelCount (s .chosen)) (length cells) enough) (never-damaged a z r .counts)
     where
       go : (t u v : Bool) (n : Counts) → u ≡ true
           → (let c = cond t (cond u (cond v (C.Of n) (C.Refused R.Damaged)) (C.Refused R.Cells)) (C.Refused R.Damaged) in
@@ -124,15 +139,15 @@ module _ (a : Asked) {w : World} (z : BegunAs a w) (budget : ℕ) (tape : List �
 
 -- what the setup of a sheet is called with, on this ring and these cells
 abbrev pub askedIn : List ℕ → List ℕ → List ℕ → Asked
-askedIn s ring cells = record { picture = pictureOf (orderIn s .width) (orderIn s .height) (orderIn s .set); ranges = orderIn s .ranges; ring = ring; cells = cells }
+askedIn s ring cells = record { chosen = cleared (orderIn s .chosen); ranges = orderIn s .ranges; ring = ring; cells = cells }
 
 -- what it answers
 abbrev pub answerTo : Asked → Started
-answerTo a = startedAnswer (a .picture) (a .ranges) (length (a .ring)) (length (a .cells))
+answerTo a = startedAnswer (a .chosen) (a .ranges) (length (a .ring)) (length (a .cells))
 
 -- the record, ring and cells that it leaves if it is accepted
 abbrev pub begunBy : Asked → World
-begunBy a = worldOf (startRecord (a .picture) (a .ranges) (length (a .ring))) (ringBegun (a .picture) (a .ranges) (a .ring) (a .cells)) (cellsBegun (a .picture) (a .ranges) (a .ring) (a .cells))
+begunBy a = worldOf (startRecord (a .chosen) (a .ranges) (length (a .ring))) (ringBegun (a .chosen) (a .ranges) (a .ring) (a .cells)) (cellsBegun (a .chosen) (a .ranges) (a .ring) (a .cells))
 
 -- the chart of a run's end
 abbrev pub chartAt : RunEnd → List ℕ
@@ -161,7 +176,7 @@ module _ (s ring cells : List ℕ) (taken : takenSheet s ≡ true) (nr : length 
   started-prints : Prints s a (startedText (orderIn s) (drop (orderIn s .tape) s) (begunBy a .ring) (begunBy a .cells) (answerTo a))
   unfolding orderIn startedAnswer setupRefusal
   started-prints =
-      let p = a .picture in
+      let p = a .chosen in
       let r = a .ranges in
       cases (legalSide (p .width) && legalSide (p .height)) (λ h.
       let c₁ = le-leb (pixelCount p) (length cells) (omega (arith, few-pixels s taken h, nc)) in
@@ -176,3 +191,63 @@ module _ (s ring cells : List ℕ) (taken : takenSheet s ≡ true) (nr : length 
 pub taken-prints : (s : List ℕ) → takenSheet s ≡ true → Prints s (askedIn s freshRing freshCells) (textOf s)
 unfolding textOf orderText
 taken-prints s e = rw e (started-prints s freshRing freshCells e (length-replicate {A = ℕ} 16384 0) (length-replicate {A = ℕ} 4096 0))
+
+-- THE CHARACTER PRINTED AT A ROW AND A COLUMN
+
+-- its place in the chart's text: behind the two lines, rows from the top, each with its line end, columns from the left
+abbrev pub placeIn : RunEnd → ℕ → ℕ → ℕ
+placeIn e row column =
+    let s = e .world .state in
+    length (runLine (s .chosen .width) (s .chosen .height) (e .steps) (e .evaluations) (e .ending) ++ countLine (countsOf s (e .world .cells)))
+    + (row * (s .chosen .width + 1) + column)
+
+-- of a pixel's own cell
+character-at : (p : Chosen) (s : State) (cells : List ℕ) → s .chosen ≡ p → pixelCount (s .chosen) ≤ length cells → (x y : ℕ) → x < p .width → y < p .height
+    → getD (rowsOf (s .chosen .width) (s .chosen .height) (characters s cells)) ((p .height - 1 - y) * (s .chosen .width + 1) + x) 0
+    ≡ characterOf (reading (s .taken) (pixelCell (p .width) (p .height) x y (meanings cells)))
+unfolding characters
+character-at p s cells e enough x y a b =
+    rw (← e) (at-pixel (rw e a) (rw e b))
+  where
+    at-pixel : x < s .chosen .width → y < s .chosen .height
+        → getD (rowsOf (s .chosen .width) (s .chosen .height) (map (λ c. characterOf (reading (s .taken) c)) (pixelCells (s .chosen) cells)))
+        ((s .chosen .height - 1 - y) * (s .chosen .width + 1) + x) 0
+        ≡ characterOf (reading (s .taken) (pixelCell (s .chosen .width) (s .chosen .height) x y (meanings cells)))
+    at-pixel a b =
+        let c = s .chosen in
+        let f : Cell → ℕ = λ c. characterOf (reading (s .taken) c) in
+        let i = cellIndex (c .width) (c .height) x y in
+        let n = pixel-cells-length c cells enough in
+        let k = cell-below (c .width) (c .height) x y a b in
+        row-at (c .width) (c .height) (map f (pixelCells c cells)) (c .height - 1 - y) x (omega arith) a (omega (arith, length-map (pixelCells c cells) f, n))
+        ∙ map-at f (pixelCells c cells) i (Named 0) (omega (arith, n, k))
+        ∙ ap f (pixel-cell-at c cells x y a b)
+
+module _ (a : Asked) {w : World} (z : BegunAs a w) (budget : ℕ) (tape : List ℕ) (e : RunEnd) (h : runOf budget w tape ≡ hasRun e) where
+  -- it is the pixel's reading: # for True, . for False, ? for Uncertain; y counts from the bottom
+  pub character-shows : (q : Pixel (a .chosen))
+      → getD (chartAt e) (placeIn e (a .chosen .height - 1 - q .y) (q .x)) 0 ≡ characterOf (readsIn (a .chosen) (e .world) q)
+  unfolding readsIn
+  character-shows q =
+      let s = e .world .state in
+      let cells = e .world .cells in
+      let lines = runLine (s .chosen .width) (s .chosen .height) (e .steps) (e .evaluations) (e .ending) ++ countLine (countsOf s cells) in
+      let rows = rowsOf (s .chosen .width) (s .chosen .height) (characters s cells) in
+      let k = steps-reached (a .chosen) (begun-reached a w z) (run-reaches budget w tape e h .0) in
+      getD-append-add lines rows ((a .chosen .height - 1 - q .y) * (s .chosen .width + 1) + q .x) 0
+      ∙ character-at (a .chosen) s cells (k .chosen) (k .keeps .enough) (q .x) (q .y) (q .x-in) (q .y-in)
+
+dot-false : (r : Reading) → characterOf r ≡ 46 → r ≡ Reads.False
+dot-false Reads.False e = refl
+dot-false Reads.Uncertain e = absurd (omega (arith, e))
+dot-false Reads.True e = absurd (omega (arith, e))
+
+-- so, if every false verdict that the run took was right, the pixel of a printed . holds no solution
+module _ (M : Measures) (Solves : Mix M → Type 0) (a : Asked) {w : World} (z : BegunAs a w) where
+  pub dot-means-no : (budget : ℕ) (tape : List ℕ) (e : RunEnd) (h : runOf budget w tape ≡ hasRun e)
+      → EveryAnswer (a .chosen) (FalseRight (coversIn (a .chosen)) (questionOf M (a .chosen) (a .ranges) Solves)) (run-reaches budget w tape e h .0)
+      → (q : Pixel (a .chosen)) → getD (chartAt e) (placeIn e (a .chosen .height - 1 - q .y) (q .x)) 0 ≡ 46
+      → ¬ HasSolution (questionOf M (a .chosen) (a .ranges) Solves) q
+  dot-means-no budget tape e h right q dot =
+      white-means-no M Solves a z (e .steps) (e .world) (run-reaches budget w tape e h .0) right q
+      (dot-false (readsIn (a .chosen) (e .world) q) (sym (character-shows a z budget tape e h q) ∙ dot))

@@ -1,11 +1,11 @@
--- Laws of the rows: those still to put, and that a buffer longer than the picture shows the picture. Assumes nothing.
+-- Laws of the rows: those still to put, that a buffer longer than the picture shows the picture, and where a character stands. Assumes nothing.
 use mathlib.Core.Path.{_≡_, refl, sym, ap, _∙_}
-use mathlib.Core.List.{List, [], _∷_, _++_, map}
+use mathlib.Core.List.{List, [], _∷_, _++_, map, append-assoc}
 use Prim.Native.Nat.{ℕ, zero, suc, _+_, _-_, _*_, _≤_, _<_}
-use native.Mathlib.Nat.{mul-suc}
+use native.Mathlib.Nat.{mul-suc, suc-mul}
 use native.Mathlib.Omega.{arith}
-use lib.ListN.{length, take, drop, length-append, length-map, length-drop}
-use lib.Seq.{drop-drop, take-append-le, drop-append-le, length-take-le}
+use lib.ListN.{length, take, drop, getD, length-append, length-map, length-drop, List·getD-append}
+use lib.Seq.{drop-drop, take-append-le, drop-append-le, length-take-le, getD-append-add, getD-take, getD-drop}
 use Rattle.sheet.specs.Writing.{written, Puts}
 use Rattle.sheet.specs.Text.{lineEnd, rowsOf, symbolOf}
 use Rattle.sheet.proofs.WritingLaws.{write-more}
@@ -114,3 +114,39 @@ rows-front width (suc height) l m e =
     let w : width ≤ length l = omega arith in
     rw (take-append-le width l m, drop-append-le width l m)
     (ap (λ (r : List ℕ). take width l ++ lineEnd ++ r) (rows-front width height (drop width l) m (omega (arith, length-drop width l))))
+
+-- A CHARACTER'S PLACE
+
+pub map-at : {A : Type 0} (f : A → ℕ) (l : List A) (i : ℕ) (d : A) → i < length l → getD (map f l) i 0 ≡ f (getD l i d)
+map-at f [] i d h = absurd (omega arith)
+map-at f (c ∷ l) zero d h = refl
+map-at f (c ∷ l) (suc i) d h = map-at f l i d (omega arith)
+
+-- the character in a row and a column, each row with its line end, is the one that stands there without line ends
+pub row-at : (width height : ℕ) (l : List ℕ) (row column : ℕ) → row < height → column < width → width * height ≤ length l
+    → getD (rowsOf width height l) (row * (width + 1) + column) 0 ≡ getD l (row * width + column) 0
+unfolding rowsOf
+row-at width zero l row column h k m = absurd (omega arith)
+row-at width (suc height) l row column h k m =
+    ap (λ (t : List ℕ). getD t (row * (width + 1) + column) 0) (append-assoc (take width l) lineEnd (rowsOf width height (drop width l)))
+    ∙ go row h (λ r b. row-at width height (drop width l) r column b k (omega (arith, fits, length-drop width l)))
+  where
+    fits : width + width * height ≤ length l
+    fits = omega (arith, mul-suc width height)
+
+    long : length (take width l) ≡ width
+    long = length-take-le width l (omega (arith, fits))
+
+    go : (r : ℕ) → r < suc height
+        → ((r : ℕ) → r < height → getD (rowsOf width height (drop width l)) (r * (width + 1) + column) 0 ≡ getD (drop width l) (r * width + column) 0)
+        → getD (take width l ++ (lineEnd ++ rowsOf width height (drop width l))) (r * (width + 1) + column) 0 ≡ getD l (r * width + column) 0
+    go zero b ih =
+        let e : zero * (width + 1) + column ≡ column = omega arith in
+        let f : zero * width + column ≡ column = omega arith in
+        rw (e, f) (List·getD-append (take width l) (lineEnd ++ rowsOf width height (drop width l)) 0 column (omega (arith, long)) ∙ getD-take width l column 0 k)
+    go (suc r) b ih =
+        let e : suc r * (width + 1) + column ≡ length (take width l) + suc (r * (width + 1) + column) = omega (arith, long, suc-mul r (width + 1)) in
+        let f : suc r * width + column ≡ width + (r * width + column) = omega (arith, suc-mul r width) in
+        rw (e, f) (getD-append-add (take width l) (lineEnd ++ rowsOf width height (drop width l)) (suc (r * (width + 1) + column)) 0
+        ∙ ih r (omega arith)
+        ∙ getD-drop width l (r * width + column) 0)

@@ -11,7 +11,7 @@ use Rattle.implicit.specs.declared.state.State.{State}
 use Rattle.implicit.specs.declared.state.Ending.{Ending}
 use Rattle.implicit.specs.declared.state.Counted.{Counted}
 use Rattle.implicit.specs.declared.state.Counted.the-variants as C
-use Rattle.implicit.specs.Setup.{pictureOf, startedAnswer, ringBegun, cellsBegun}
+use Rattle.implicit.specs.Setup.{cleared, startedAnswer, ringBegun, cellsBegun}
 use Rattle.implicit.specs.Step.{worldOf}
 use Rattle.implicit.specs.Run.{RunAnswer, notRun, hasRun, runOf}
 use Rattle.implicit.specs.View.{countsAnswer}
@@ -45,7 +45,7 @@ startedText o tape ring cells (S.Refused why) = refusedText why
 -- of a sheet that is taken
 unfoldable pub orderText : Order → List ℕ → List ℕ
 orderText o tape =
-    let p = pictureOf (o .width) (o .height) (o .set) in
+    let p = cleared (o .chosen) in
     startedText o tape
     (ringBegun p (o .ranges) freshRing freshCells)
     (cellsBegun p (o .ranges) freshRing freshCells)

@@ -70,7 +70,7 @@ rowsOf width (suc height) l = take width l ++ lineEnd ++ rowsOf width height (dr
 
 -- a character for each pixel by its reading, rows from the top
 unfoldable pub characters : State → List ℕ → List ℕ
-characters s cells = map (λ c. characterOf (reading (s .taken) c)) (pixelCells (s .picture) cells)
+characters s cells = map (λ c. characterOf (reading (s .taken) c)) (pixelCells (s .chosen) cells)
 
 -- the character of a picture's byte: that of the reading whose byte it is
 abbrev pub symbolOf : ℕ → ℕ
@@ -79,9 +79,9 @@ symbolOf b = cond (eqb b 0) 46 (cond (eqb b 1) 63 35)
 -- the whole text of a run that left this record and these cells
 abbrev pub chartText : State → List ℕ → ℕ → ℕ → Ending → Counts → List ℕ
 chartText s cells steps evals ending n =
-    runLine (s .picture .width) (s .picture .height) steps evals ending
+    runLine (s .chosen .width) (s .chosen .height) steps evals ending
     ++ countLine n
-    ++ rowsOf (s .picture .width) (s .picture .height) (characters s cells)
+    ++ rowsOf (s .chosen .width) (s .chosen .height) (characters s cells)
 
 -- all that is printed of a refusal: "refused " and its number
 unfoldable pub refusedText : Refusal → List ℕ

@@ -7,6 +7,7 @@ ghost use lib.Ieee.{binary64, ofBits};
 ghost use lib.ListN.{length};
 ghost use Rattle.decide.specs.Damage.{legalSide};
 ghost use Rattle.sheet.specs.Layout.{numberIn, rangeBytes, placesIn, boundsIn, rangeIn, rangesIn, orderIn, tooLarge, takenSheet};
+use decide::Chosen;
 use implicit::state::Ranges;
 use interval::Interval;
 use queue::directions::Direction;
@@ -23,9 +24,7 @@ struct Places {
 
 // What a sheet asks for, and where its tape begins.
 pub(crate) struct Order {
-    pub width: u32,
-    pub height: u32,
-    pub set: u8,
+    pub chosen: Chosen,
     pub budget: u32,
     pub ranges: Ranges,
     pub tape: usize,
@@ -118,10 +117,16 @@ pub(crate) fn read_order(s: &[u8]) -> Order
     let set = s[4] / 4;
     let at = places_in(set);
     let ranges = ranges_in(s, set);
-    Order {
+    let chosen = Chosen {
         width: number_in(s, 0, 2) as u32,
         height: number_in(s, 2, 2) as u32,
         set,
+        reserved1: 0,
+        reserved2: 0,
+        reserved3: 0,
+    };
+    Order {
+        chosen,
         budget: number_in(s, 5, 4) as u32,
         ranges,
         tape: at.tape,

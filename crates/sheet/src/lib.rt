@@ -54,8 +54,9 @@ fn print_order(o: Order, tape: &[u8], out: &mut [u8]) -> usize
 {
     let mut ring = [0u8; 16384];
     let mut cells = [0u64; 4096];
+    let chosen = o.chosen;
     let ranges = o.ranges;
-    match implicit::begin::setup(o.width, o.height, o.set, ranges, &mut ring, &mut cells) {
+    match implicit::begin::setup(chosen, ranges, &mut ring, &mut cells) {
         Started::Ready(s) => print_run(s, o.budget, &mut ring, &mut cells, tape, out),
         Started::Refused(why) => write::put_refused(out, why),
     }
@@ -118,7 +119,7 @@ fn print_chart(
 {
     let mut picture = [0u8; 4096];
     implicit::picture(s, cells, &mut picture);
-    let p = s.picture;
+    let p = s.chosen;
     let at = write::put_run(out, 0, p.width, p.height, steps, evaluations, ending);
     let at = write::put_counts(out, at, n);
     write::put_rows(out, at, p.width as usize, p.height as usize, &picture)

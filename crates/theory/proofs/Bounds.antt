@@ -53,7 +53,7 @@ low-covers-one w h px placeOf b l p q a c =
     one : (i p q : ℕ) → T (coversAlong px (placeOf b .level) i p) → T (coversAlong px (placeOf b .level) i q) → p ≡ q
     one i p q a c = covers-start px (placeOf b .level) i p l a ∙ sym (covers-start px (placeOf b .level) i q l c)
 
-none-left : {Block : Type 0} (placeOf : Block → Place) (floor : ℕ) (q : List Block) → Every (λ b. floor < placeOf b .level) q
+pub none-left : {Block : Type 0} (placeOf : Block → Place) (floor : ℕ) (q : List Block) → Every (λ b. floor < placeOf b .level) q
     → Every (λ b. placeOf b .level ≤ floor) q → q ≡ []
 unfolding Every
 none-left placeOf floor [] a b = refl

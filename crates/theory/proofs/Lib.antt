@@ -5,6 +5,7 @@ pub mod Settled
 pub mod StandingLaws
 pub mod Invariant
 pub mod FalseRule
+pub mod GreyRule
 pub mod FirstInFirstOut
 pub mod TrueStays
 pub mod RunLaws
@@ -19,6 +20,7 @@ pub mod Bounds
 pub mod TurnLaws
 pub mod TrueMeansYes
 pub mod WhiteMeansNo
+pub mod Decided
 pub mod HalvesHold
 pub mod Edges
 pub mod IntegerLaws

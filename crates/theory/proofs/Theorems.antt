@@ -16,14 +16,16 @@ use Rattle.base.proofs.AxisLaws.{places-over, places-under}
 use Rattle.theory.specs.Lists.{Every, Some, sumOver}
 use Rattle.theory.specs.Cells.{isTrue, givenUp, named, readsTrue, readsFalse, readsUncertain}
 use Rattle.theory.specs.Runs.{Snapshot, AcceptedSetup, Narrower, AllNarrower, FinishedStep, FinishedSteps, EveryStep, queuedIn}
-use Rattle.theory.specs.Demand3.{pixelReads, NoneCovers, CoversAtMostOne, NamesLast, WasGivenUp, LooksBeforeGivingUp, GivesUpAlike, KeepsTrue, GivesUpOnePixel, WholePicture}
+use Rattle.theory.specs.Demand3.{pixelReads, NoneCovers, CoversAtMostOne, NamesLast, WasGivenUp, LooksBeforeGivingUp, GivesUpAlike, KeepsTrue, GivesUpOnePixel, GivesUpBelow, WholePicture}
 use Rattle.theory.specs.Levels.{Place, placeAt, costAbove, OneBlock, QueuesChildren, QueuesAbove, NeverRise, OnTwoLevels, placesAlong, placesAbove, stripPlacesAbove, pixelFigure, stripPixelFigure}
 use Rattle.theory.specs.Shapes.{PixelIn, coversPixel, coversByPlace, quarters, halvesInX}
-use Rattle.theory.specs.Colours.{Question, HasSolution, HoldsAll, Turn, childOf, inTurn, afterwards, Cutting, Follows, LosesNothing, Judged, EveryTurn, FalseRight, MarkRight}
+use Rattle.theory.specs.Colours.{Question, HasSolution, HoldsAll, Turn, childOf, inTurn, afterwards, Cutting, Follows, LosesNothing, Judged, EveryTurn, FalseRight, MarkRight, DecidedBelow}
 use Rattle.theory.specs.Positions.{Ruler, PlaceHolds, StripHolds, LiesBetween, SharedEdges, Fraction, LiesExactly, InPixelAlong}
 use Rattle.theory.specs.Cuts.{Span, firstPieces, laterPieces, InSpan, Owes, firstIntegers, laterIntegers}
 use Rattle.theory.proofs.Invariant.{setup-sound, steps-sound, sound-named}
 use Rattle.theory.proofs.FalseRule.{false-by-events, was-now, false-steps, elsewhere}
+use Rattle.theory.proofs.GreyRule.{grey-by-events}
+use Rattle.theory.proofs.Decided.{decided-by-figure}
 use Rattle.theory.proofs.FirstInFirstOut.{taken-counts, queue-after, queue-behind}
 use Rattle.theory.proofs.TrueStays.{true-steps, away-from-uncertain, whole-picture-alike, one-pixel-alike}
 use Rattle.theory.proofs.RunLaws.{every-step}
@@ -109,6 +111,12 @@ module _ {Block Pixel : Type 0} (covers : Block → Pixel → Bool) (spare : Boo
   pub names-last : {n : ℕ} {s₀ s : Snapshot Block Pixel} → AcceptedSetup covers s₀ → FinishedSteps covers spare n s₀ s
       → (p : Pixel) (m : ℕ) → s .cells p ≡ named m → NamesLast covers (s .taken) (s .queue) p m
   names-last {s = s} z r = sound-named covers s (steps-sound covers spare r (setup-sound covers z))
+
+  -- "Uncertain: given up by a step, or a queued block covers it": so a pixel reads exactly if it isn't True and one of the two holds
+  pub grey-says : {n : ℕ} {s₀ s : Snapshot Block Pixel} → AcceptedSetup covers s₀ → (r : FinishedSteps covers spare n s₀ s) (p : Pixel)
+      → (pixelReads s p ≡ readsUncertain)
+      ↔ ((¬ (pixelReads s p ≡ readsTrue)) × (WasGivenUp covers spare r p ⊎ Some (λ b. T (covers b p)) (s .queue)))
+  grey-says = grey-by-events covers spare
 
   -- a step changes readings only under the block that it takes
   pub elsewhere-stays : {n : ℕ} {s₀ s s′ : Snapshot Block Pixel} → AcceptedSetup covers s₀ → FinishedSteps covers spare n s₀ s
@@ -208,6 +216,18 @@ module _ {Block Pixel : Type 0} (covers : Block → Pixel → Bool) (spare : Boo
       → (floor : ℕ) → floor < px + k → EveryStep covers spare (QueuesAbove covers spare placeOf floor) r
       → Every (λ b. placeOf b .level ≤ floor) (s .queue) → s .queue ≡ []
   empty-at-floor = emptied covers spare placeOf
+
+-- "if everything looked at on a pixel's level or below is decided, no pixel is grey once the steps reach the customer's sum", or the queue is empty: the sum of pixel-bound, of a
+-- picture of more than one pixel (k is at least 1), where a step that gives up takes a block on a pixel's level or below
+module _ {Block Pixel : Type 0} (covers : Block → Pixel → Bool) (C : Cutting Block) (spare : Bool) (placeOf : Block → Place)
+    (same : (c d : Block) → C .Same c d → placeOf d .level ≡ placeOf c .level) where
+  pub decided-in-time : (px w h k : ℕ) {n : ℕ} {s₀ s : Snapshot Block Pixel} → AcceptedSetup covers s₀ → OneBlock placeOf px w h k s₀ → 1 ≤ k
+      → (r : FinishedSteps covers spare n s₀ s)
+      → EveryStep covers spare (QueuesChildren covers spare placeOf (quarters px w h)) r
+      → EveryStep covers spare (GivesUpBelow covers spare (λ b. placeOf b .level) px) r
+      → (j : EveryStep covers spare (Judged covers C spare) r) → EveryTurn covers C spare (DecidedBelow (λ b. placeOf b .level) px) r j
+      → (pixelFigure w h k ≤ n) ⊎ (s .queue ≡ []) → (s .queue ≡ []) × ((p : Pixel) → ¬ (pixelReads s p ≡ readsUncertain))
+  decided-in-time = decided-by-figure covers C spare placeOf same
 
 -- a block at the pixel's level or below it covers at most one pixel
 pub low-covers-at-most-one : {Block : Type 0} (w h px : ℕ) (placeOf : Block → Place) (b : Block) → placeOf b .level ≤ px

@@ -4,7 +4,7 @@
 use mathlib.Core.Path.{_≡_}
 use mathlib.Core.Bool.{Bool, cond}
 use mathlib.Core.List.{List, [], _∷_, _++_, map}
-use Prim.Native.Nat.{ℕ}
+use Prim.Native.Nat.{ℕ, _≤_}
 use lib.Dec.{T}
 use Rattle.theory.specs.Lists.{Every, Some}
 use Rattle.theory.specs.Cells.{Standing, isTrue}
@@ -158,3 +158,7 @@ module _ {Block Pixel : Type 0} (covers : Block → Pixel → Bool) where
     -- "every mark was right"
     unfoldable pub MarkRight : Turn Block → Type 0
     MarkRight (turn c v f) = ¬ (f ≡ skipped) → v ≡ saidTrue → OneInEach covers Q c
+
+-- "everything looked at on a pixel's level or below was decided": a child on level px or below it that was not skipped is told false or true
+unfoldable pub DecidedBelow : {Block : Type 0} → (Block → ℕ) → ℕ → Turn Block → Type 0
+DecidedBelow levelOf px (turn c v f) = ¬ (f ≡ skipped) → levelOf c ≤ px → ¬ (v ≡ saidOpen)

@@ -71,6 +71,10 @@ module _ {Block Pixel : Type 0} (covers : Block → Pixel → Bool) where
     unfoldable pub GivesUpOnePixel : (s s′ : Snapshot Block Pixel) → FinishedStep covers spare s s′ → Type 0
     GivesUpOnePixel s s′ st = T (anyGivesUp (st .events)) → CoversAtMostOne (st .front)
 
+    -- of a step that gives up: its block lies on level px or below it
+    unfoldable pub GivesUpBelow : (Block → ℕ) → ℕ → (s s′ : Snapshot Block Pixel) → FinishedStep covers spare s s′ → Type 0
+    GivesUpBelow levelOf px s s′ st = T (anyGivesUp (st .events)) → levelOf (st .front) ≤ px
+
     -- and where neither is, every block covers the whole picture
     unfoldable pub WholePicture : (s s′ : Snapshot Block Pixel) → FinishedStep covers spare s s′ → Type 0
     WholePicture s s′ st = ((p : Pixel) → T (covers (st .front) p)) × AllWhole (st .events)

@@ -33,8 +33,8 @@ slice-aggregate-put-rows c = search needs
 put-rows-requires : tie.Need-put-rows-requires
 put-rows-requires c κs =
     let s = c .before .before .before .before .before .before .before .before .before .before .before .before .before .before .before .before .before .before in
-    let w = s .args .s .picture .width in
-    let y = s .args .s .picture .height in
+    let w = s .args .s .chosen .width in
+    let y = s .args .s .chosen .height in
     let h = counted-room (s .args .s) (s .args .cells .now) (s .args .n) (s .pre .0) (s .pre .1) in
     let k : 4096 ≡ length (c .before .before .before .before .before .before .before .before .before .before .before .before .before .before .picture2 .last .1 .1 .0) = slice-aggregate-put-rows c in
     let o : length (c .before .before .before .before .before .before .put-counts .last .0) ≡ 8704 = puts-length (c .before .before .before .before .before .before .put-counts .ensures .0) ∙ puts-length (c .before .before .before .before .before .before .before .before .before .before .put-run .ensures .0) ∙ s .pre .2 in

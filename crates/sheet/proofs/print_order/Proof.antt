@@ -38,7 +38,7 @@ same-length c = search needs
 
 returns : tie.Need-returns
 returns c =
-    let s = c .before .before .before .before .before .before .before .before .before .before .before .before .before .before .before .before .before .before .before .args in
+    let s = c .before .before .before .before .before .before .before .before .before .before .before .before .before .before .before .before .before .before .before .before .args in
     let e = c .before .before .before .before .before .before .before .before .before .before .before .before .before .setup .ensures in
     (puts-as (text-ready (s .o) (s .tape .now) _ (e .0) _ _ _ (c .before .before .before .before .before .before .before .before .before .s .given .1) (e .1 .0) (e .1 .1)) (c .before .before .before .before .print-run .ensures .0), c .before .before .before .before .print-run .ensures .1)
 
@@ -47,7 +47,7 @@ same-length-2 c = search needs
 
 returns-2 : tie.Need-returns-2
 returns-2 c =
-    let s = c .before .before .before .before .before .before .before .before .before .before .before .before .before .before .before .args in
+    let s = c .before .before .before .before .before .before .before .before .before .before .before .before .before .before .before .before .args in
     (puts-as (text-not-ready (s .o) (s .tape .now) _ (c .before .before .before .before .before .before .before .before .before .setup .ensures .0) _ (c .before .before .before .before .before .why .given .1)) (c .before .before .put-refused .ensures .0), omega (arith, c .before .before .put-refused .ensures .1))
 
 pub print-order-spec : {M : Type 1} → statement M

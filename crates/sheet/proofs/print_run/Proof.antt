@@ -15,7 +15,9 @@ enum-known-state : tie.Need-enum-known-state
 enum-known-state c = search needs
 
 print-counts-requires : tie.Need-print-counts-requires
-print-counts-requires c κs = search needs
+print-counts-requires c κs =
+    let a = c .before .before .before .before .before .before .before .before .before .before .before .before .before .before .before .before in
+    (omega (arith, a .pre .0), omega (arith, a .pre .1))
 
 enum-known-why : tie.Need-enum-known-why
 enum-known-why c = search needs

@@ -18,20 +18,20 @@ ranges-in-requires c κs = taken-head (c .before .before .before .args .s .now) 
 number-in-requires : tie.Need-number-in-requires
 number-in-requires c κs = let n = taken-nine (c .before .before .before .before .args .s .now) (c .before .before .before .before .pre) in (omega arith, omega arith)
 
-cast-t8 : tie.Need-cast-t8
-cast-t8 c = search needs
+cast-t9 : tie.Need-cast-t9
+cast-t9 c = search needs
 
 number-in-requires-2 : tie.Need-number-in-requires-2
 number-in-requires-2 c κs = let n = taken-nine (c .before .before .before .before .before .args .s .now) (c .before .before .before .before .before .pre) in (omega arith, omega arith)
 
-cast-t10 : tie.Need-cast-t10
-cast-t10 c = search needs
+cast-t11 : tie.Need-cast-t11
+cast-t11 c = search needs
 
 number-in-requires-3 : tie.Need-number-in-requires-3
 number-in-requires-3 c κs = let n = taken-nine (c .before .before .before .before .before .before .args .s .now) (c .before .before .before .before .before .before .pre) in (omega arith, omega arith)
 
-cast-t12 : tie.Need-cast-t12
-cast-t12 c = search needs
+cast-t11-2 : tie.Need-cast-t11-2
+cast-t11-2 c = search needs
 
 returns : tie.Need-returns
 unfolding orderIn
@@ -50,9 +50,9 @@ read-order-spec =
     places-in-requires
     ranges-in-requires
     number-in-requires
-    cast-t8
+    cast-t9
     number-in-requires-2
-    cast-t10
+    cast-t11
     number-in-requires-3
-    cast-t12
+    cast-t11-2
     returns)
