@@ -1,5 +1,5 @@
-"""cases.py: document 01's worked cases, and every refusal of setup and step, alone and beside later ones. What must come out is the model's answer, and is said here
-too where document 01 says it."""
+"""cases.py: document 01's worked cases, and every refusal of setup and step, alone and beside later ones. What must come out is the model's answer, and is
+said here too where document 01 says it."""
 import itertools
 
 import model

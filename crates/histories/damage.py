@@ -207,4 +207,52 @@ def views(p):
             assert p.counts()[0] == 0
 
 
-PARTS = (records, blocks, sound, views)
+def unused(p):
+    """an unused n_theta. A setup does not look at its range; children have the whole line; a remembered one that is illegal is damage of the record."""
+    for s in (61, 60, 57, 53, 49, 48, 13, 9, 4, 1, 0):
+        ranges = [q if s & bit else (NAN, -1.0) for q, bit in zip(RANGES, model.BITS)]
+        assert p.setup(2, 1, s, ranges, bytes(p.bytes[:600]), [0] * 2) == 0
+        assert p.children() == 0 and all(b[3][2] == LINE for b in model.children(p.world)[1])
+        w, kids = p.world, len(model.children(p.world)[1])
+        for name in ("front", "back"):
+            for q in ILLEGAL + BROKEN:
+                bad = with_record(w, **{name: with_interval(getattr(w.record, name), 2, q)})
+                p.world = bad
+                assert p.children() == 8
+                p.world = with_record(bad, taken=w.record.queued, used=0)  # before the empty queue's 13
+                assert p.children() == 8
+                if q == ILLEGAL[3]:
+                    refused(p, bad, b"\0" * kids, 8)
+                    assert p.run(b"", 0).refusal == 8
+                    look(p, bad)
+            p.world = with_record(w, **{name: with_interval(getattr(w.record, name), 2, (-5.0, 6.0))})
+            assert p.children() == 0 and all(b[3][2] == LINE for b in model.children(p.world)[1])
+            finished(p, p.world, b"\x40" * kids)
+            assert p.world.record.front[2][2] == LINE
+
+
+def reserved(p):
+    """reserved bytes. A setup's record has 0 there; no call looks at them, and a step hands on what it was given."""
+    for bytes_ in (1, 255, 1 << 8, 1 << 16, 0x800000, 0x010203, 0xFFFFFF):
+        for s in (48, 51, 63):
+            need = p.least_ring(2, 2, s, RANGES, bytes_)[1]
+            assert p.setup(2, 2, s, RANGES, bytes(p.bytes[: need + 60]), [7] * 5, bytes_) == 0 and p.world.record.reserved == 0
+            w = with_record(p.world, reserved=bytes_)
+            look(p, w)
+            kids = len(model.children(w)[1])
+            assert finished(p, w, b"\x40\0\x40\0"[:kids]).world.record.reserved == bytes_
+            look(p, p.world)
+            p.run(b"\x40\0\0\0" * 2, 2)
+            assert p.world.record.reserved == bytes_
+            refused(p, w, b"\0" * (kids + 1), 4)
+            refused(p, with_record(w, set=64), b"\0" * kids, 8)
+            refused(p, with_record(w, taken=w.record.queued, used=0), b"", 13)
+            assert p.run(b"", 3).ending == "done"
+        assert p.setup(0, 2, 48, RANGES, bytes(9), [0] * 4, bytes_) == 1
+        assert p.setup(2, 2, 48, RANGES, bytes(9), [0] * 3, bytes_) == 2
+        assert p.setup(2, 2, 64, RANGES, bytes(9), [0] * 4, bytes_) == 3
+        assert p.setup(2, 2, 48, RANGES, bytes(4), [0] * 4, bytes_) == 6
+        assert p.least_ring(2, 32769, 48, RANGES, bytes_)[0] == 1 and p.least_ring(2, 2, 255, RANGES, bytes_)[0] == 3
+
+
+PARTS = (records, blocks, sound, views, unused, reserved)

@@ -1,11 +1,12 @@
 #!/usr/bin/env python3
-"""make.py VECTORS TRACES..: writes stdin and stdout, the list that the program `histories` plays and what it must print.
+"""make.py STORED VECTORS TRACES..: writes stdin and stdout, the list that the program `histories` plays and what it must print.
 
-The answers are those of model.py, document 01 once more on Python's own numbers; tables.py has the list's format; cases.py, damage.py and rings.py make cases up. The
-files named on the command line were recorded elsewhere: vectors.txt and traces.tsv, and original.tsv, which compare/'s driver wrote (`driver record 20261115 40 8`)
-while it played the original. The model is held against every line of them, so that what is played is what they have.
+The answers are those of model.py, document 01 once more on Python's own numbers; tables.py has the list's format; cases.py, damage.py, rings.py, rooms.py and
+moves.py make cases up. The files named on the command line were recorded elsewhere: vectors.txt and traces.tsv; original.tsv, which compare/'s driver wrote
+(`driver record 20261115 40 8`) while it played the original; and the stored charts with n_theta, which the library once began. The model is held against
+every line of them, so that what is played is what they have.
 
-    python3 make.py vectors.txt traces.tsv original.tsv
+    python3 make.py ../../bindings/stored/charts.txt vectors.txt traces.tsv original.tsv
 """
 import os
 import struct
@@ -14,7 +15,10 @@ import sys
 import cases
 import damage
 import model
+import moves
 import rings
+import rooms
+import stored
 from tables import Player
 
 HERE = os.path.dirname(os.path.abspath(__file__))
@@ -122,12 +126,14 @@ def traces(p, path):
 
 def main():
     p = Player()
-    n = vectors(p, sys.argv[1])
+    n = vectors(p, sys.argv[2])
     p.close(f"vectors, {n} cases")
-    for path in sys.argv[2:]:
+    for path in sys.argv[3:]:
         n = traces(p, path)
         p.close(f"{os.path.basename(path).split('.')[0]}, {n} lines")
-    for part in cases.PARTS + damage.PARTS + rings.PARTS:
+    n = stored.charts(p, sys.argv[1])
+    p.close(f"stored charts with n_theta, {n} charts")
+    for part in cases.PARTS + damage.PARTS + rings.PARTS + rooms.PARTS + moves.PARTS:
         part(p)
         p.close(part.__doc__.split(".")[0])
     p.out += b"\0"
@@ -137,7 +143,7 @@ def main():
     for title, n, size in p.parts + [("all", p.calls, len(p.out))]:
         print(f"{title}: {n} calls, {size} bytes")
     for (call, refusal), n in sorted(p.answers.items()):
-        print(("setup", "children", "step", "run", "picture", "counts")[call - 1], "answers", refusal, n, "times")
+        print(call, "answers", refusal, n, "times")
 
 
 main()

@@ -15,9 +15,10 @@ TRUE, GIVEN = 1 << 32, (1 << 32) + 1
 START = (0, 0, (LINE,) * 4)
 BLANK = (0, 0, -48, (LINE,) * 4, 0)
 
-Record = namedtuple("Record", "width height set taken queued len head used front back")
+Record = namedtuple("Record", "width height set taken queued len head used front back reserved", defaults=(0,))  # reserved: three bytes behind the set
 World = namedtuple("World", "record ring cells")
 Stepped = namedtuple("Stepped", "refusal world evaluations verdicts")
+Moved = namedtuple("Moved", "refusal world")
 Ran = namedtuple("Ran", "refusal world steps evaluations verdicts ending")
 
 
@@ -214,7 +215,7 @@ def legal_verdict(v, level):
 def record_damaged(r, length):
     lasts = (r.front, r.back)
     return (
-        not (1 <= r.width <= 32768 and 1 <= r.height <= 32768)
+        not legal_sides(r.width, r.height)
         or r.set > 63
         or r.taken > r.queued
         or r.queued > 1 << 32
@@ -242,14 +243,8 @@ def front_block(r, ring):
 # ---- the calls
 
 
-def setup(width, height, s, ranges, ring, cells):
-    """A refusal's number, or the world that it leaves."""
-    if not (1 <= width <= 32768 and 1 <= height <= 32768):
-        return 1
-    if len(cells) < width * height:
-        return 2
-    if s > 63 or not all(legal(ranges[i], INTEGER[i]) for i in used_of(s)):
-        return 3
+def first_code(width, height, s, ranges):
+    """The codes of the first blocks, their number, and what is remembered of the last."""
     level = next(k for k in range(16) if 1 << k >= max(width, height))
     pieces = [first_cut(ranges[i], INTEGER[i]) if s & BITS[i] else [LINE] for i in range(4)]
     blocks = [(0, 0, level, (m, n, q, t), 0) for m in pieces[0] for n in pieces[1] for q in pieces[2] for t in pieces[3]]
@@ -257,11 +252,54 @@ def setup(width, height, s, ranges, ring, cells):
     for b in blocks:
         code += encode(s, back, b)
         back = (b[0], b[1], b[3])
-    if len(code) > len(ring):
-        return 6
-    record = Record(width, height, s, 0, len(blocks), len(ring), 0, len(code), START, back)
+    return code, len(blocks), back
+
+
+def legal_sides(width, height):
+    return 1 <= width <= 32768 and 1 <= height <= 32768
+
+
+def legal_ranges(s, ranges):
+    return s <= 63 and all(legal(ranges[i], INTEGER[i]) for i in used_of(s))
+
+
+def least_ring(width, height, s, ranges):
+    """A refusal's number or 0, and the bytes that a setup's codes take."""
+    if not legal_sides(width, height):
+        return 1, None
+    if not legal_ranges(s, ranges):
+        return 3, None
+    return 0, len(first_code(width, height, s, ranges)[0])
+
+
+def enough_ring(width, height, s, ranges, steps):
+    """A refusal's number or 0, and the bytes of a ring with which so many steps find room."""
+    refusal, first = least_ring(width, height, s, ranges)
+    if refusal:
+        return refusal, None
+    count = len(used_of(s))
+    return 0, first + steps * (50 + 18 * count if count else 27)
+
+
+def begin(width, height, s, ranges, ring, cells):
+    """The world that a setup leaves which is not refused."""
+    code, count, back = first_code(width, height, s, ranges)
+    record = Record(width, height, s, 0, count, len(ring), 0, len(code), START, back)
     pixels = width * height
-    return World(record, code + bytes(ring[len(code) :]), [len(blocks) - 1] * pixels + list(cells[pixels:]))
+    return World(record, code + bytes(ring[len(code) :]), [count - 1] * pixels + list(cells[pixels:]))
+
+
+def setup(width, height, s, ranges, ring, cells):
+    """A refusal's number, or the world that it leaves."""
+    if not legal_sides(width, height):
+        return 1
+    if len(cells) < width * height:
+        return 2
+    if not legal_ranges(s, ranges):
+        return 3
+    if len(first_code(width, height, s, ranges)[0]) > len(ring):
+        return 6
+    return begin(width, height, s, ranges, ring, cells)
 
 
 def children(w):
@@ -396,3 +434,13 @@ def counts(w):
     settled = pixels - seen.count(1)
     share = floor(Fraction(1000 * settled, pixels) + Fraction(1, 2))
     return 0, (seen.count(2), seen.count(0), seen.count(1), w.cells[:pixels].count(GIVEN), r.queued - r.taken, share)
+
+
+def move(w, other):
+    """The queue's bytes from byte 0 of another ring on."""
+    r = w.record
+    if record_damaged(r, len(w.ring)):
+        return Moved(8, w)
+    if not other or len(other) < r.used:
+        return Moved(6, w)
+    return Moved(0, World(r._replace(len=len(other), head=0), content(r, w.ring) + bytes(other[r.used :]), w.cells))

@@ -1,25 +1,28 @@
 """tables.py: the two tables that a call is given and leaves, and the list that the program plays.
 
 Words (64 bits each)
-  0 width, 1 height, 2 set, 3 blocks taken, 4 queued, 5 ring length, 6 head, 7 bytes used
+  0 width, 1 height, 2 set and above its byte the three reserved ones, 3 blocks taken, 4 queued, 5 ring length, 6 head, 7 bytes used
   8.. what is remembered of the last block taken: x, y, then lower and upper of m, n, n_theta, t as bit patterns; 18.. of the last one queued
   28.. a setup's ranges of m, n, n_theta, t
-  36 ring bytes lent, 37 cells lent, 38 verdict or tape bytes, 39 budget, 40 picture bytes lent
+  36 ring bytes lent, 37 cells lent, 38 verdict or tape bytes, 39 budget or number of steps, 40 picture bytes lent
   41 the answer, 0 or a refusal's number, 42 evaluations, 43 verdict bytes taken, 44 steps, 45 the ending (1 done, 2 limit, 3 more, 100 + n stop n)
-  46.. counts: true, false, uncertain, given up, queued, share; 52 the number of children, 53.. four blocks of 13: x, its level + 48, y, its level + 48, m, n, n_theta, t, direction
+  46.. counts: true, false, uncertain, given up, queued, share
+  52 the number of children, 53.. four blocks of 13: x, its level + 48, y, its level + 48, m, n, n_theta, t, direction
+  105 the bytes that a ring needs, 106 the other ring's bytes lent
   128.. cells
 Bytes
-  0.. the ring, 3072.. verdicts or tape, 3584.. the picture
+  0.. the ring, 3072.. verdicts or tape, 3584.. the picture; in a move 3072.. the other ring
 
-An entry of the list is the call's number (1 setup, 2 children, 3 step, 4 run, 5 picture, 6 counts), the change to what it is given, and the change to what it must
-leave. A change is the number of its runs; a run is what it changes (0 bytes, else words and the bytes of each value), its place in two bytes, the number of its values
-in one, and the values. 7 closes a part: the length of its title, and the title. 0 ends the list. Numbers stand with the higher byte first.
+An entry of the list is the call's number (its place in CALLS, from 1 on), the change to what it is given, and the change to what it must leave. A change is
+the number of its runs; a run is what it changes (0 bytes, else words and the bytes of each value), its place in two bytes, the number of its values in one,
+and the values. 255 closes a part: the length of its title, and the title. 0 ends the list. Numbers stand with the higher byte first.
 """
 import struct
 
 import model
 
-RING, TAPE, PICTURE, CELLS = 3072, 3072, 3584, 128
+CALLS = ("setup", "children", "step", "run", "picture", "counts", "least_ring", "enough_ring", "move_queue")
+RING, TAPE, PICTURE, OTHER, CELLS = 3072, 3072, 3584, 3072, 128
 ENDINGS = {"done": 1, "limit": 2, "more": 3}
 
 
@@ -32,7 +35,7 @@ def last_words(last):
 
 
 def record_words(r):
-    return [r.width, r.height, r.set, r.taken, r.queued, r.len, r.head, r.used] + last_words(r.front) + last_words(r.back)
+    return [r.width, r.height, r.set + 256 * r.reserved, r.taken, r.queued, r.len, r.head, r.used] + last_words(r.front) + last_words(r.back)
 
 
 def block_words(b):
@@ -69,7 +72,7 @@ class Player:
         self.out += bytes([len(found)]) + b"".join(found)
         self.words, self.bytes = list(words), bytearray(data)
 
-    def tables(self, w, words=(), tape=None, picture=None):
+    def tables(self, w, words=(), tape=None, picture=None, other=None):
         """The tables with a world in them, and other words by their places."""
         new, data = list(self.words), bytearray(self.bytes)
         values = dict(words)
@@ -85,39 +88,57 @@ class Player:
         if picture is not None:
             values[40] = len(picture)
             data[PICTURE : PICTURE + len(picture)] = picture
+        if other is not None:
+            values[106] = len(other)
+            data[OTHER : OTHER + len(other)] = other
         for at, v in values.items():
             new[at] = v
         assert len(data) == 4096 and len(new) == 384
         return new, data
 
     def entry(self, call, given, left, refusal):
-        self.out += bytes([call])
+        self.out += bytes([CALLS.index(call) + 1])
         self.change(*given)
         self.change(*left)
         self.calls += 1
         self.answers[call, refusal] = self.answers.get((call, refusal), 0) + 1
 
     def close(self, title):
-        self.out += bytes([7, len(title)]) + title.encode()
+        self.out += bytes([255, len(title)]) + title.encode()
         self.parts.append((title, self.calls - sum(part[1] for part in self.parts), len(self.out) - sum(part[2] for part in self.parts)))
 
     # ---- the calls
 
-    def setup(self, width, height, s, ranges, ring, cells):
+    def chosen(self, width, height, s, ranges, reserved):
+        """The words of what a setup chooses."""
+        return [(0, width), (1, height), (2, s + 256 * reserved)] + list(enumerate((w for p in ranges for w in bits(p)), 28))
+
+    def needed(self, call, words, refusal, need):
+        """A call that is lent no memory and tells a ring's bytes."""
+        nothing = model.World(None, b"", [])
+        self.answer(call, self.tables(nothing, words), nothing, [(41, refusal)] + ([] if refusal else [(105, need)]), refusal)
+        return refusal, need
+
+    def least_ring(self, width, height, s, ranges, reserved=0):
+        return self.needed("least_ring", self.chosen(width, height, s, ranges, reserved), *model.least_ring(width, height, s, ranges))
+
+    def enough_ring(self, width, height, s, ranges, steps, reserved=0):
+        words = self.chosen(width, height, s, ranges, reserved) + [(39, steps)]
+        return self.needed("enough_ring", words, *model.enough_ring(width, height, s, ranges, steps))
+
+    def setup(self, width, height, s, ranges, ring, cells, reserved=0):
         got = model.setup(width, height, s, ranges, ring, cells)
         start = model.World(None, bytes(ring), list(cells))
-        words = [(0, width), (1, height), (2, s)] + [(28 + i, v) for i, v in enumerate(w for p in ranges for w in bits(p))]
-        given = self.tables(start, words)
+        given = self.tables(start, self.chosen(width, height, s, ranges, reserved))
         refusal = got if isinstance(got, int) else 0
         self.world = start if refusal else got
-        return self.answer(1, given, self.world, [(41, refusal)], refusal)
+        return self.answer("setup", given, self.world, [(41, refusal)], refusal)
 
-    def answer(self, call, given, world, words, refusal, picture=None):
-        """Writes a call down that leaves a world and some words, from the tables that it is given."""
+    def answer(self, call, given, world, words, refusal, place=0, data=b""):
+        """Writes a call down that leaves a world, some words and some bytes from a place on, from the tables that it is given."""
         kept, (self.words, self.bytes) = (self.words, self.bytes), given
         left = self.tables(world, words)
-        if picture is not None:
-            left[1][PICTURE : PICTURE + len(picture)] = picture
+        left[1][place : place + len(data)] = data
         self.words, self.bytes = kept
         self.entry(call, given, left, refusal)
         return refusal
@@ -126,12 +147,12 @@ class Player:
         refusal, kids, parent = model.children(self.world)
         blocks = kids + [parent] * (4 - len(kids))
         words = [(41, refusal), (52, len(kids))] + list(enumerate((w for b in blocks for w in block_words(b)), 53))
-        return self.answer(2, self.tables(self.world), self.world, words, refusal)
+        return self.answer("children", self.tables(self.world), self.world, words, refusal)
 
     def step(self, verdicts):
         got = model.step(self.world, verdicts)
         words = [(41, got.refusal)] + ([] if got.refusal else [(42, got.evaluations), (43, got.verdicts)])
-        self.answer(3, self.tables(self.world, tape=verdicts), got.world, words, got.refusal)
+        self.answer("step", self.tables(self.world, tape=verdicts), got.world, words, got.refusal)
         self.world = got.world
         return got
 
@@ -141,17 +162,25 @@ class Player:
         if not got.refusal:
             ending = ENDINGS.get(got.ending) or 100 + got.ending
             words += [(42, got.evaluations), (43, got.verdicts), (44, got.steps), (45, ending)]
-        self.answer(4, self.tables(self.world, [(39, budget)], tape=tape), got.world, words, got.refusal)
+        self.answer("run", self.tables(self.world, [(39, budget)], tape=tape), got.world, words, got.refusal)
         self.world = got.world
         return got
 
     def picture(self, buffer):
         refusal, left = model.picture(self.world, buffer)
-        self.answer(5, self.tables(self.world, picture=buffer), self.world, [(41, refusal)], refusal, left)
+        self.answer("picture", self.tables(self.world, picture=buffer), self.world, [(41, refusal)], refusal, PICTURE, left)
         return refusal, left
 
     def counts(self):
         refusal, got = model.counts(self.world)
         words = [(41, refusal)] + (list(enumerate(got, 46)) if got else [])
-        self.answer(6, self.tables(self.world), self.world, words, refusal)
+        self.answer("counts", self.tables(self.world), self.world, words, refusal)
         return refusal, got
+
+    def move(self, other):
+        """A refusal's number; the world goes on in the other ring unless it is refused."""
+        got = model.move(self.world, other)
+        left = self.world._replace(record=got.world.record)  # the old ring and the cells stay
+        self.answer("move_queue", self.tables(self.world, other=other), left, [(41, got.refusal)], got.refusal, OTHER, other if got.refusal else got.world.ring)
+        self.world = got.world
+        return got.refusal

@@ -1,8 +1,8 @@
 #!/usr/bin/env python3
-"""make.py: writes data/cases and stdout, what the program `sheets` replays and must print.
+"""make.py: writes data/sheets and stdout, the sheets that the program `sheets` plays and what it must print.
 
 What a sheet prints is computed by model.py, from document 01 alone. The sheets of runs.txt, whole runs with the lines
-that they print, are held against the model first. src/main.rt says how the file is packed.
+that they print, are held against the model first. src/main.rt says how the file is laid out.
 """
 import os
 import random
@@ -192,32 +192,6 @@ def large(rng):
     return out
 
 
-# ---- the file
-
-
-def packed(text):
-    """Runs: a length byte, a count, the bytes; at the end three zeros."""
-    out, plain, i = b"", b"", 0
-    text = bytes(text)
-    while i < len(text):
-        best = (0, 1, 1)
-        for p in (1, 2, 3, 4, 5):
-            n = 1
-            while n < 65535 and text[i + n * p : i + (n + 1) * p] == text[i : i + p] and i + (n + 1) * p <= len(text):
-                n += 1
-            best = max(best, (n * p - p, p, n))
-        if best[0] > 8:
-            out += runs(plain) + bytes([best[1]]) + best[2].to_bytes(2, "big") + text[i : i + best[1]]
-            plain, i = b"", i + best[1] * best[2]
-        else:
-            plain, i = plain + text[i : i + 1], i + 1
-    return out + runs(plain) + bytes(3)
-
-
-def runs(plain):
-    return b"".join(bytes([len(plain[i : i + 255]), 0, 1]) + plain[i : i + 255] for i in range(0, len(plain), 255))
-
-
 def main():
     rng = random.Random(8)
     known = recorded()
@@ -234,9 +208,10 @@ def main():
     for k in sorted(ends):
         print("%5d %s" % (ends[k], k))
     os.makedirs(os.path.join(HERE, "data"), exist_ok=True)
-    data = len(cases).to_bytes(2, "big") + b"".join(packed(s) + packed(t.encode()) for s, t in zip(cases, texts))
-    open(os.path.join(HERE, "data", "cases"), "wb").write(data)
-    open(os.path.join(HERE, "stdout"), "w").write("sheets that print their text: %d\nsheets that do not: 0\n" % len(cases))
+    data = len(cases).to_bytes(2, "big") + b"".join(len(s).to_bytes(2, "big") + s for s in cases)
+    open(os.path.join(HERE, "data", "sheets"), "wb").write(data)
+    lines = "".join("sheet %d, bytes %d\n%s" % (i + 1, len(t), t) for i, t in enumerate(texts))
+    open(os.path.join(HERE, "stdout"), "w").write(lines)
     print(len(cases), "sheets,", len(data), "bytes")
 
 

@@ -4,6 +4,8 @@ ghost use mathlib.Core.Path.{_≡_};
 ghost use Prim.Native.Nat.{_+_, _^_, _≤_, _<_, min};
 ghost use lib.ListN.{length, take, drop};
 ghost use Rattle.blocks.specs.Record.{sameMeasure};
+ghost use Rattle.blocks.specs.Replay.{sameAppended, sameTaken, measureAgrees, appendAgrees, takeAgrees, ringAgrees, agrees};
+ghost use Rattle.blocks.specs.Replay.{setsUp, records, countedBy, talliedBy};
 use queue::Appended;
 use queue::Block;
 use queue::Last;
@@ -20,59 +22,33 @@ use record::same_last;
 
 mod record;
 
-// The queue under test, and how many records agreed, differed, and only set it up.
-struct State {
+// The queue under test: its set, the ring's length, head and use, and what its two sides remember.
+struct Tested {
     set: u8,
     len: usize,
     head: usize,
     used: usize,
     front: Last,
     back: Last,
+}
+
+// How many records agreed, differed, and only set the queue up.
+struct Tally {
     agree: u64,
     differ: u64,
     setup: u64,
 }
 
-fn say(word: &[u8], n: u64) {
-    io::write_all(1, word);
-    io::print_decimal(1, n);
+// The queue after a record, and whether the record agreed.
+struct Played {
+    queue: Tested,
+    ok: bool,
 }
 
-// A record that differs, of the first twenty: its place in the list, and the answer to it and the one that is wanted.
-fn show(before: u64, at: u64, what: &[u8], got: u8, want: u8) {
-    if 20 <= before {
-        return;
-    }
-    say(b"record ", at);
-    io::write_all(1, what);
-    say(b" ", got as u64);
-    say(b", wanted ", want as u64);
-    io::write_all(1, b"\n");
-}
-
-// The state with one record more, which agreed or not.
-fn counted(s: State, ok: bool, what: &[u8], got: u8, want: u8) -> State
-    requires { ⌜ s .agree + s .differ + s .setup < 2 ^ 32 ⌝ }
-    ensures { λ r. ⌜ (r .agree + r .differ + r .setup ≡ s .agree + s .differ + s .setup + 1) × (r .len ≡ s .len) ⌝ }
-{
-    let mut r = s;
-    if ok {
-        r.agree = s.agree + 1;
-        return r;
-    }
-    show(s.differ, s.agree + s.differ + s.setup + 1, what, got, want);
-    r.differ = s.differ + 1;
-    r
-}
-
-// The state with one record more that asks nothing.
-fn prepared(s: State) -> State
-    requires { ⌜ s .agree + s .differ + s .setup < 2 ^ 32 ⌝ }
-    ensures { λ r. ⌜ (r .agree + r .differ + r .setup ≡ s .agree + s .differ + s .setup + 1) × (r .len ≡ s .len) ⌝ }
-{
-    let mut r = s;
-    r.setup = s.setup + 1;
-    r
+// The replay: the queue, and the counts.
+struct State {
+    queue: Tested,
+    tally: Tally,
 }
 
 fn at_most(n: usize, most: usize) -> usize
@@ -92,32 +68,32 @@ fn copy(rec: &[u8], ring: &mut [u8])
 }
 
 // A new ring: its set, length, head, use and bytes.
-fn start(rec: &[u8], ring: &mut [u8], s: State) -> State
-    requires { ⌜ (256 ≤ length (now rec)) × (length (now ring) ≡ 192) × (s .agree + s .differ + s .setup < 2 ^ 32) ⌝ }
-    ensures { λ r. ⌜ (r .agree + r .differ + r .setup ≡ s .agree + s .differ + s .setup + 1) × (r .len ≤ 192) ⌝ }
+fn start(rec: &[u8], ring: &mut [u8]) -> Tested
+    requires { ⌜ (256 ≤ length (now rec)) × (length (now ring) ≡ 192) ⌝ }
+    ensures { λ r. ⌜ r .len ≤ 192 ⌝ }
 {
-    let last = starting_last();
-    let mut r = s;
-    r.set = rec[1];
-    r.len = at_most(number_at(rec, 2), 192);
-    r.head = number_at(rec, 4);
-    r.used = number_at(rec, 6);
-    r.front = last;
-    r.back = last;
     copy(rec, ring);
-    prepared(r)
+    let last = starting_last();
+    Tested {
+        set: rec[1],
+        len: at_most(number_at(rec, 2), 192),
+        head: number_at(rec, 4),
+        used: number_at(rec, 6),
+        front: last,
+        back: last,
+    }
 }
 
 // Both sides remember a block.
-fn recall(rec: &[u8], s: State) -> State
-    requires { ⌜ (256 ≤ length (now rec)) × (s .agree + s .differ + s .setup < 2 ^ 32) × (s .len ≤ 192) ⌝ }
-    ensures { λ r. ⌜ (r .agree + r .differ + r .setup ≡ s .agree + s .differ + s .setup + 1) × (r .len ≤ 192) ⌝ }
+fn recall(rec: &[u8], q: Tested) -> Tested
+    requires { ⌜ 256 ≤ length (now rec) ⌝ }
+    ensures { λ r. ⌜ r .len ≡ q .len ⌝ }
 {
     let last = remember(block_at(rec, 8));
-    let mut r = s;
+    let mut r = q;
     r.front = last;
     r.back = last;
-    prepared(r)
+    r
 }
 
 fn same_measure(m: Measured, want: usize, memory: Last) -> bool
@@ -129,75 +105,64 @@ fn same_measure(m: Measured, want: usize, memory: Last) -> bool
     }
 }
 
-// A block measured and appended.
-fn append_case(rec: &[u8], ring: &mut [u8], s: State) -> State
-    requires { ⌜ (256 ≤ length (now rec)) × (length (now ring) ≡ 192) × (s .agree + s .differ + s .setup < 2 ^ 32) × (s .len ≤ 192) ⌝ }
-    ensures { λ r. ⌜ (r .agree + r .differ + r .setup ≡ s .agree + s .differ + s .setup + 1) × (r .len ≤ 192) ⌝ }
+// Whether a block is measured as its record says.
+fn is_measured(rec: &[u8], q: Tested) -> bool
+    requires { ⌜ 256 ≤ length (now rec) ⌝ }
+    ensures { λ r. ⌜ r ≡ measureAgrees (now (rec .entry)) q ⌝ }
 {
-    let b = block_at(rec, 8);
-    let memory = last_at(rec, 91);
-    let fits = same_measure(queue::measure(s.set, s.back, b), number_at(rec, 4), memory);
-    let len = s.len;
-    let answer = queue::append(&mut ring[0..len], s.head, s.used, s.set, s.back, b);
-    appended(s, answer, rec[1], number_at(rec, 2), fits, memory)
+    let m = queue::measure(q.set, q.back, block_at(rec, 8));
+    same_measure(m, number_at(rec, 4), last_at(rec, 91))
 }
 
-// The state after an answer to append, against the answer, the use and the memory that are wanted.
-fn appended(s: State, answer: Appended, want: u8, used: usize, fits: bool, memory: Last) -> State
-    requires { ⌜ (s .agree + s .differ + s .setup < 2 ^ 32) × (s .len ≤ 192) ⌝ }
-    ensures { λ r. ⌜ (r .agree + r .differ + r .setup ≡ s .agree + s .differ + s .setup + 1) × (r .len ≤ 192) ⌝ }
+fn same_appended(answer: Appended, want: u8, used: usize, memory: Last) -> bool
+    ensures { λ r. ⌜ r ≡ sameAppended answer want used memory ⌝ }
 {
     match answer {
         Appended::Done { last, used: now } => {
-            let mut r = s;
-            r.back = last;
-            r.used = now;
-            let same = same_last(last, memory);
-            counted(
-                r,
-                fits & (want == 0) & (now == used) & same,
-                b", append:",
-                0,
-                want,
-            )
+            (want == 0) & (now == used) & same_last(last, memory)
         }
-        Appended::NoRoom => counted(s, fits & (want == 1), b", append:", 1, want),
-        Appended::NotCodable => counted(s, fits & (want == 2), b", append:", 2, want),
-        Appended::Outside => counted(s, fits & (want == 3), b", append:", 3, want),
+        Appended::NoRoom => want == 1,
+        Appended::NotCodable => want == 2,
+        Appended::Outside => want == 3,
     }
 }
 
-// The front block taken.
-fn take_case(rec: &[u8], ring: &mut [u8], s: State) -> State
-    requires { ⌜ (256 ≤ length (now rec)) × (length (now ring) ≡ 192) × (s .agree + s .differ + s .setup < 2 ^ 32) × (s .len ≤ 192) ⌝ }
-    ensures { λ r. ⌜ (r .agree + r .differ + r .setup ≡ s .agree + s .differ + s .setup + 1) × (r .len ≤ 192) ⌝ }
+// The queue after an answer to append.
+fn after_append(q: Tested, answer: Appended) -> Tested
+    ensures { λ r. ⌜ r .len ≡ q .len ⌝ }
 {
-    let b = block_at(rec, 8);
-    let len = s.len;
-    let answer = queue::take(&ring[0..len], s.head, s.used, s.set, s.front);
-    taken(
-        s,
-        answer,
-        rec[1],
-        number_at(rec, 2),
-        number_at(rec, 4),
-        b,
-        last_at(rec, 91),
-    )
+    match answer {
+        Appended::Done { last, used } => {
+            let mut r = q;
+            r.back = last;
+            r.used = used;
+            r
+        }
+        Appended::NoRoom => q,
+        Appended::NotCodable => q,
+        Appended::Outside => q,
+    }
 }
 
-// The state after an answer to take, against the answer, the head, the use, the block and the memory that are wanted.
-fn taken(
-    s: State,
-    answer: Taken,
-    want: u8,
-    head: usize,
-    used: usize,
-    b: Block,
-    memory: Last,
-) -> State
-    requires { ⌜ (s .agree + s .differ + s .setup < 2 ^ 32) × (s .len ≤ 192) ⌝ }
-    ensures { λ r. ⌜ (r .agree + r .differ + r .setup ≡ s .agree + s .differ + s .setup + 1) × (r .len ≤ 192) ⌝ }
+// A block measured and appended.
+fn append_case(rec: &[u8], ring: &mut [u8], q: Tested) -> Played
+    requires { ⌜ (256 ≤ length (now rec)) × (length (now ring) ≡ 192) × (q .len ≤ 192) ⌝ }
+    ensures { λ r. ⌜ (r .ok ≡ appendAgrees (now (rec .entry)) (now (ring .entry)) q) × (r .queue .len ≡ q .len) ⌝ }
+{
+    let fits = is_measured(rec, q);
+    let len = q.len;
+    let b = block_at(rec, 8);
+    let answer = queue::append(&mut ring[0..len], q.head, q.used, q.set, q.back, b);
+    let same = same_appended(answer, rec[1], number_at(rec, 2), last_at(rec, 91));
+    let queue = after_append(q, answer);
+    Played {
+        queue,
+        ok: fits & same,
+    }
+}
+
+fn same_taken(answer: Taken, want: u8, head: usize, used: usize, b: Block, memory: Last) -> bool
+    ensures { λ r. ⌜ r ≡ sameTaken answer want head used b memory ⌝ }
 {
     match answer {
         Taken::Front {
@@ -205,48 +170,153 @@ fn taken(
             last,
             head: h,
             used: u,
-        } => {
-            let mut r = s;
-            r.front = last;
-            r.head = h;
-            r.used = u;
-            let same = same_block(block, b) & same_last(last, memory);
-            counted(
-                r,
-                (want == 0) & (h == head) & (u == used) & same,
-                b", take:",
-                0,
-                want,
-            )
-        }
-        Taken::Damaged => counted(s, want == 1, b", take:", 1, want),
-        Taken::Outside => counted(s, want == 2, b", take:", 2, want),
+        } => (want == 0)
+            & (h == head)
+            & (u == used)
+            & same_block(block, b)
+            & same_last(last, memory),
+        Taken::Damaged => want == 1,
+        Taken::Outside => want == 2,
     }
 }
 
-// The ring's bytes against a record's.
-fn compare(rec: &[u8], ring: &mut [u8], s: State) -> State
-    requires { ⌜ (256 ≤ length (now rec)) × (length (now ring) ≡ 192) × (s .agree + s .differ + s .setup < 2 ^ 32) × (s .len ≤ 192) ⌝ }
-    ensures { λ r. ⌜ (r .agree + r .differ + r .setup ≡ s .agree + s .differ + s .setup + 1) × (r .len ≤ 192) ⌝ }
+// The queue after an answer to take.
+fn after_take(q: Tested, answer: Taken) -> Tested
+    ensures { λ r. ⌜ r .len ≡ q .len ⌝ }
 {
-    let len = s.len;
-    let end = 16 + len;
-    let same = check::same(&ring[0..len], &rec[16..end]);
-    counted(s, same, b", ring bytes the same:", 0, 1)
+    match answer {
+        Taken::Front {
+            block: _,
+            last,
+            head,
+            used,
+        } => {
+            let mut r = q;
+            r.front = last;
+            r.head = head;
+            r.used = used;
+            r
+        }
+        Taken::Damaged => q,
+        Taken::Outside => q,
+    }
 }
 
-// One record: 0 starts a ring, 1 appends, 2 takes, 3 compares the ring's bytes, 4 sets what is remembered.
-fn step(rec: &[u8], ring: &mut [u8], s: State) -> State
-    requires { ⌜ (256 ≤ length (now rec)) × (length (now ring) ≡ 192) × (s .agree + s .differ + s .setup < 2 ^ 32) × (s .len ≤ 192) ⌝ }
-    ensures { λ r. ⌜ (r .agree + r .differ + r .setup ≡ s .agree + s .differ + s .setup + 1) × (r .len ≤ 192) ⌝ }
+// The front block taken.
+fn take_case(rec: &[u8], ring: &[u8], q: Tested) -> Played
+    requires { ⌜ (256 ≤ length (now rec)) × (length (now ring) ≡ 192) × (q .len ≤ 192) ⌝ }
+    ensures { λ r. ⌜ (r .ok ≡ takeAgrees (now (rec .entry)) (now (ring .entry)) q) × (r .queue .len ≡ q .len) ⌝ }
+{
+    let len = q.len;
+    let answer = queue::take(&ring[0..len], q.head, q.used, q.set, q.front);
+    let head = number_at(rec, 2);
+    let used = number_at(rec, 4);
+    let ok = same_taken(
+        answer,
+        rec[1],
+        head,
+        used,
+        block_at(rec, 8),
+        last_at(rec, 91),
+    );
+    let queue = after_take(q, answer);
+    Played { queue, ok }
+}
+
+// Whether the ring's bytes are the record's.
+fn same_ring(rec: &[u8], ring: &[u8], q: Tested) -> bool
+    requires { ⌜ (256 ≤ length (now rec)) × (length (now ring) ≡ 192) × (q .len ≤ 192) ⌝ }
+    ensures { λ r. ⌜ r ≡ ringAgrees (now (rec .entry)) (now (ring .entry)) q ⌝ }
+{
+    let len = q.len;
+    let end = 16 + len;
+    check::same(&ring[0..len], &rec[16..end])
+}
+
+// A record by its kind: 0 starts a ring, 1 appends, 2 takes, 3 compares the ring's bytes, 4 sets what is remembered.
+fn play(rec: &[u8], ring: &mut [u8], q: Tested) -> Played
+    requires { ⌜ (256 ≤ length (now rec)) × (length (now ring) ≡ 192) × (q .len ≤ 192) ⌝ }
+    ensures { λ r. ⌜ (r .ok ≡ agrees (now (rec .entry)) (now (ring .entry)) q) × (r .queue .len ≤ 192) ⌝ }
 {
     match rec[0] {
-        0 => start(rec, ring, s),
-        1 => append_case(rec, ring, s),
-        2 => take_case(rec, ring, s),
-        3 => compare(rec, ring, s),
-        4 => recall(rec, s),
-        kind => counted(s, false, b", kind:", kind, 4),
+        1 => append_case(rec, ring, q),
+        2 => take_case(rec, ring, q),
+        3 => Played {
+            queue: q,
+            ok: same_ring(rec, ring, q),
+        },
+        0 => Played {
+            queue: start(rec, ring),
+            ok: false,
+        },
+        4 => Played {
+            queue: recall(rec, q),
+            ok: false,
+        },
+        _ => Played {
+            queue: q,
+            ok: false,
+        },
+    }
+}
+
+fn sets_up(kind: u8) -> bool
+    ensures { λ r. ⌜ r ≡ setsUp kind ⌝ }
+{
+    (kind == 0) | (kind == 4)
+}
+
+// The counts with one record more: it set up, agreed or differed.
+fn counted(t: Tally, up: bool, ok: bool) -> Tally
+    requires { ⌜ records t < 2 ^ 32 ⌝ }
+    ensures { λ r. ⌜ (r ≡ countedBy up ok t) × (records r ≡ records t + 1) ⌝ }
+{
+    let mut r = t;
+    if up {
+        r.setup = t.setup + 1;
+        return r;
+    }
+    if ok {
+        r.agree = t.agree + 1;
+        return r;
+    }
+    r.differ = t.differ + 1;
+    r
+}
+
+// One record more: played, and counted by whether it agreed.
+fn step(rec: &[u8], ring: &mut [u8], s: State) -> State
+    requires { ⌜ (256 ≤ length (now rec)) × (length (now ring) ≡ 192) × (s .queue .len ≤ 192) × (records (s .tally) < 2 ^ 32) ⌝ }
+    ensures { λ r. ⌜ r .tally ≡ talliedBy (now (rec .entry)) (now (ring .entry)) (s .queue) (s .tally) ⌝ }
+    ensures { λ r. ⌜ (r .queue .len ≤ 192) × (records (r .tally) ≡ records (s .tally) + 1) ⌝ }
+{
+    let q = s.queue;
+    let t = s.tally;
+    let up = sets_up(rec[0]);
+    let p = play(rec, ring, q);
+    let queue = p.queue;
+    let tally = counted(t, up, p.ok);
+    show(t, tally);
+    State { queue, tally }
+}
+
+fn say(word: &[u8], n: u64) {
+    io::write_all(1, word);
+    io::print_decimal(1, n);
+    io::write_all(1, b"\n");
+}
+
+// A record that differs, of the first twenty: its place in the list.
+fn show(before: Tally, after: Tally)
+    requires { ⌜ records after ≤ 2 ^ 32 ⌝ }
+{
+    if before.differ < after.differ {
+        if after.differ <= 20 {
+            say(
+                b"differs: record ",
+                after.agree + after.differ + after.setup,
+            );
+        }
     }
 }
 
@@ -263,50 +333,50 @@ fn next(fd: i32, rec: &mut [u8]) -> usize
 }
 
 fn begin() -> State
-    ensures { λ r. ⌜ (r .agree + r .differ + r .setup ≡ 0) × (r .len ≤ 192) ⌝ }
+    ensures { λ r. ⌜ (records (r .tally) ≡ 0) × (r .queue .len ≤ 192) ⌝ }
 {
     let last = starting_last();
-    State {
+    let queue = Tested {
         set: 0,
         len: 0,
         head: 0,
         used: 0,
         front: last,
         back: last,
+    };
+    let tally = Tally {
         agree: 0,
         differ: 0,
         setup: 0,
-    }
+    };
+    State { queue, tally }
 }
 
-fn replay(fd: i32, ring: &mut [u8]) -> State
+fn replay(fd: i32, ring: &mut [u8]) -> Tally
     requires { ⌜ length (now ring) ≡ 192 ⌝ }
-    ensures { λ r. ⌜ r .agree + r .differ + r .setup ≤ 1000000 ⌝ }
+    ensures { λ r. ⌜ records r ≤ 1000000 ⌝ }
 {
     let mut s = begin();
     let mut turns: u64 = 1000000;
     while 0 < turns {
         let mut rec = [0u8; 256];
         if next(fd, &mut rec) == 0 {
-            return s;
+            let t = s.tally;
+            return t;
         }
         s = step(&rec, ring, s);
         turns -= 1;
     }
-    s
-}
-
-fn say_line(word: &[u8], n: u64) {
-    say(word, n);
-    io::write_all(1, b"\n");
+    let t = s.tally;
+    t
 }
 
 fn main() {
     let mut ring = [0u8; 192];
     let fd = os::open_read(b"cases");
-    let s = replay(fd, &mut ring);
+    let t = replay(fd, &mut ring);
     libc::close(fd);
-    say_line(b"records that agree: ", s.agree);
-    say_line(b"records that differ: ", s.differ);
-    say_line(b"records that set up: ", s.setup);
+    say(b"records that agree: ", t.agree);
+    say(b"records that differ: ", t.differ);
+    say(b"records that set up: ", t.setup);
 }

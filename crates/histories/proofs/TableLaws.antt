@@ -31,3 +31,7 @@ pub both-hold : (p q : Bool) (A B : Type 0) → (p ≡ true → A) → (q ≡ tr
 both-hold true true A B f g e = (f refl, g refl)
 both-hold true false A B f g e = absurd (false≢true e)
 both-hold false q A B f g e = absurd (false≢true e)
+
+-- and both must, where what they stand for does
+pub both-needed : (p q : Bool) (A B : Type 0) → (A → p ≡ true) → (B → q ≡ true) → A × B → p && q ≡ true
+both-needed p q A B f g h = rw (f (h .0), g (h .1)) refl

@@ -1,11 +1,11 @@
 -- What stands in the table of words.
 use mathlib.Core.List.{List}
-use Prim.Native.Nat.{ℕ, _+_, _%_}
+use Prim.Native.Nat.{ℕ, _+_, _/_, _%_}
 use lib.Ieee.{binary64, ofBits}
 use lib.ListN.{getD}
 use Rattle.interval.specs.declared.Interval.{Interval}
 use Rattle.queue.specs.declared.Last.{Last}
-use Rattle.decide.specs.declared.Picture.{Picture}
+use Rattle.decide.specs.declared.Chosen.{Chosen}
 use Rattle.implicit.specs.declared.state.State.{State}
 use Rattle.implicit.specs.declared.state.Ranges.{Ranges}
 
@@ -25,15 +25,23 @@ lastAt w at =
       t = intervalAt w (at + 8);
     }
 
--- sides and set
-abbrev pub pictureAt : List ℕ → Picture
-pictureAt w = record { width = getD w 0 0 % 4294967296; height = getD w 1 0 % 4294967296; set = getD w 2 0 % 256 }
+-- sides; the set and the reserved bytes
+abbrev pub chosenAt : List ℕ → Chosen
+chosenAt w =
+    record {
+      width = getD w 0 0 % 4294967296;
+      height = getD w 1 0 % 4294967296;
+      set = getD w 2 0 % 256;
+      reserved1 = getD w 2 0 / 256 % 256;
+      reserved2 = getD w 2 0 / 65536 % 256;
+      reserved3 = getD w 2 0 / 16777216 % 256;
+    }
 
 -- the record
 unfoldable pub stateAt : List ℕ → State
 stateAt w =
     record {
-      picture = pictureAt w;
+      chosen = chosenAt w;
       taken = getD w 3 0;
       queued = getD w 4 0;
       len = getD w 5 0;

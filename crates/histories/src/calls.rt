@@ -1,26 +1,33 @@
 // The engine's calls, each made with what the tables hold and answered into the copies.
 //
-// Word 36 has the ring's length, 37 the number of cells, 38 the verdict or tape bytes, 39 the budget, 40 the length of the picture's buffer; 41 the answer, 0 or a
-// refusal's number, 42 evaluations, 43 verdict bytes taken, 44 steps, 45 the ending (1 done, 2 limit, 3 more, 100 and a refusal's number: stop), 46 to 51 the counts,
-// 52 the number of children and from 53 on four blocks. A refusal leaves 42 to 51 as they were. Cells begin at word 128; verdicts at byte 3072, the picture at 3584.
+// Word 36 has the ring's length, 37 the number of cells, 38 the verdict or tape bytes, 39 the budget or the number of steps, 40 the length of the picture's
+// buffer; 41 the answer, 0 or a refusal's number, 42 evaluations, 43 verdict bytes taken, 44 steps, 45 the ending (1 done, 2 limit, 3 more, 100 and a refusal's
+// number: stop), 46 to 51 the counts, 52 the number of children and from 53 on four blocks, 105 the bytes that a ring needs, 106 the other ring's length. A
+// refusal leaves 42 to 51 and 105 as they were. Cells begin at word 128; verdicts at byte 3072, the picture at 3584; the other ring of a move at 3072.
 ghost use mathlib.Core.Path.{_≡_};
 ghost use lib.ListN.{length};
+use crate::record::chosen_at;
 use crate::record::length_at;
-use crate::record::picture_at;
 use crate::record::put_block;
 use crate::record::put_state;
 use crate::record::ranges_at;
 use crate::record::state_at;
+use crate::record::steps_at;
 use crate::tables::put;
 use decide::children::Children;
 use implicit::advance::step;
+use implicit::begin::least_ring;
 use implicit::begin::setup;
 use implicit::go::run;
 use implicit::list::children;
+use implicit::room::enough_ring;
+use implicit::room::move_queue;
 use implicit::state::Counted;
 use implicit::state::Counts;
 use implicit::state::Drawn;
 use implicit::state::Ending;
+use implicit::state::Moved;
+use implicit::state::Needed;
 use implicit::state::Ran;
 use implicit::state::Started;
 use implicit::state::Stepped;
@@ -43,18 +50,11 @@ fn put_started(got: &mut [u64], answer: Started) {
 fn play_setup(words: &[u64], got: &mut [u64], left: &mut [u8])
     requires { ⌜ (length (now words) ≡ 384) × (length (now got) ≡ 384) × (length (now left) ≡ 4096) ⌝ }
 {
-    let p = picture_at(words);
+    let chosen = chosen_at(words);
     let ranges = ranges_at(words);
     let len = length_at(words, 36, 3072);
     let end = 128 + length_at(words, 37, 256);
-    let answer = setup(
-        p.width,
-        p.height,
-        p.set,
-        ranges,
-        &mut left[0..len],
-        &mut got[128..end],
-    );
+    let answer = setup(chosen, ranges, &mut left[0..len], &mut got[128..end]);
     put_started(got, answer);
 }
 
@@ -159,7 +159,7 @@ fn play_run(words: &[u64], bytes: &[u8], got: &mut [u64], left: &mut [u8])
     let len = length_at(words, 36, 3072);
     let end = 128 + length_at(words, 37, 256);
     let stop = 3072 + length_at(words, 38, 512);
-    let budget = (words[39] % 4294967296) as u32;
+    let budget = steps_at(words);
     let answer = run(
         s,
         &mut left[0..len],
@@ -201,7 +201,59 @@ fn play_counts(words: &[u64], got: &mut [u64])
     }
 }
 
-// The call of a number: 1 setup, 2 children, 3 step, 4 run, 5 picture, 6 counts.
+fn put_needed(got: &mut [u64], answer: Needed) {
+    match answer {
+        Needed::Bytes(n) => {
+            put(got, 41, 0);
+            put(got, 105, n as u64);
+        }
+        Needed::Refused(why) => put_refusal(got, why),
+    }
+}
+
+fn play_least_ring(words: &[u64], got: &mut [u64])
+    requires { ⌜ (length (now words) ≡ 384) × (length (now got) ≡ 384) ⌝ }
+{
+    let chosen = chosen_at(words);
+    let ranges = ranges_at(words);
+    let answer = least_ring(chosen, ranges);
+    put_needed(got, answer);
+}
+
+fn play_enough_ring(words: &[u64], got: &mut [u64])
+    requires { ⌜ (length (now words) ≡ 384) × (length (now got) ≡ 384) ⌝ }
+{
+    let chosen = chosen_at(words);
+    let ranges = ranges_at(words);
+    let steps = steps_at(words);
+    let answer = enough_ring(chosen, ranges, steps);
+    put_needed(got, answer);
+}
+
+fn put_moved(got: &mut [u64], answer: Moved) {
+    match answer {
+        Moved::Done(state) => {
+            put(got, 41, 0);
+            put_state(got, state);
+        }
+        Moved::Refused { why, state } => {
+            put_refusal(got, why);
+            put_state(got, state);
+        }
+    }
+}
+
+fn play_move(words: &[u64], bytes: &[u8], got: &mut [u64], left: &mut [u8])
+    requires { ⌜ (length (now words) ≡ 384) × (length (now bytes) ≡ 4096) × (length (now got) ≡ 384) × (length (now left) ≡ 4096) ⌝ }
+{
+    let s = state_at(words);
+    let len = length_at(words, 36, 3072);
+    let end = 3072 + length_at(words, 106, 1024);
+    let answer = move_queue(s, &bytes[0..len], &mut left[3072..end]);
+    put_moved(got, answer);
+}
+
+// The call of a number: 1 setup, 2 children, 3 step, 4 run, 5 picture, 6 counts, 7 least_ring, 8 enough_ring, 9 move_queue.
 pub(crate) fn play(call: u8, words: &[u64], bytes: &[u8], got: &mut [u64], left: &mut [u8])
     requires { ⌜ (length (now words) ≡ 384) × (length (now bytes) ≡ 4096) × (length (now got) ≡ 384) × (length (now left) ≡ 4096) ⌝ }
 {
@@ -212,6 +264,9 @@ pub(crate) fn play(call: u8, words: &[u64], bytes: &[u8], got: &mut [u64], left:
         4 => play_run(words, bytes, got, left),
         5 => play_picture(words, got, left),
         6 => play_counts(words, got),
+        7 => play_least_ring(words, got),
+        8 => play_enough_ring(words, got),
+        9 => play_move(words, bytes, got, left),
         _ => put(got, 41, 99),
     }
 }

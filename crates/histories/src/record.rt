@@ -1,12 +1,12 @@
 // What stands in the table of words: records, ranges and blocks, a word for each number and the bit pattern for each bound.
 ghost use mathlib.Core.Path.{_≡_};
-ghost use Prim.Native.Nat.{_+_, _<_, _≤_, min};
+ghost use Prim.Native.Nat.{_+_, _%_, _<_, _≤_, min};
 ghost use lib.Ieee.{binary64, ofBits};
 ghost use lib.ListN.{length, getD};
-ghost use Rattle.histories.specs.Words.{intervalAt, lastAt, pictureAt, stateAt, rangesAt};
+ghost use Rattle.histories.specs.Words.{intervalAt, lastAt, chosenAt, stateAt, rangesAt};
 use crate::tables::put;
 use coordinate::Coordinate;
-use decide::Picture;
+use decide::Chosen;
 use implicit::state::Ranges;
 use implicit::state::State;
 use interval::Interval;
@@ -51,14 +51,18 @@ fn last_at(w: &[u64], at: usize) -> Last
     }
 }
 
-pub(crate) fn picture_at(w: &[u64]) -> Picture
+// The sides in words 0 and 1; the set and the reserved bytes in word 2, the set lowest.
+pub(crate) fn chosen_at(w: &[u64]) -> Chosen
     requires { ⌜ 3 ≤ length (now w) ⌝ }
-    ensures { λ r. ⌜ r ≡ pictureAt (now (w .entry)) ⌝ }
+    ensures { λ r. ⌜ r ≡ chosenAt (now (w .entry)) ⌝ }
 {
-    Picture {
+    Chosen {
         width: (w[0] % 4294967296) as u32,
         height: (w[1] % 4294967296) as u32,
         set: (w[2] % 256) as u8,
+        reserved1: (w[2] / 256 % 256) as u8,
+        reserved2: (w[2] / 65536 % 256) as u8,
+        reserved3: (w[2] / 16777216 % 256) as u8,
     }
 }
 
@@ -67,11 +71,11 @@ pub(crate) fn state_at(w: &[u64]) -> State
     requires { ⌜ 28 ≤ length (now w) ⌝ }
     ensures { λ r. ⌜ r ≡ stateAt (now (w .entry)) ⌝ }
 {
-    let picture = picture_at(w);
+    let chosen = chosen_at(w);
     let front = last_at(w, 8);
     let back = last_at(w, 18);
     State {
-        picture,
+        chosen,
         taken: w[3],
         queued: w[4],
         len: w[5] as usize,
@@ -92,6 +96,14 @@ pub(crate) fn ranges_at(w: &[u64]) -> Ranges
     let theta = interval_at(w, 32);
     let t = interval_at(w, 34);
     Ranges { m, n, theta, t }
+}
+
+// The budget of a run, or the steps that a ring is asked for.
+pub(crate) fn steps_at(w: &[u64]) -> u32
+    requires { ⌜ 40 ≤ length (now w) ⌝ }
+    ensures { λ r. ⌜ r ≡ getD (now (w .entry)) 39 0 % 4294967296 ⌝ }
+{
+    (w[39] % 4294967296) as u32
 }
 
 // The length in a word, cut to what a table has room for.
@@ -121,10 +133,12 @@ fn put_last(w: &mut [u64], at: usize, l: Last)
     put_interval(w, at + 8, l.t);
 }
 
-fn put_picture(w: &mut [u64], p: Picture) {
+fn put_chosen(w: &mut [u64], p: Chosen) {
     put(w, 0, p.width as u64);
     put(w, 1, p.height as u64);
-    put(w, 2, p.set as u64);
+    let low = p.set as u64 + 256 * (p.reserved1 as u64);
+    let high = p.reserved2 as u64 + 256 * (p.reserved3 as u64);
+    put(w, 2, low + 65536 * high);
 }
 
 fn put_counters(w: &mut [u64], s: State) {
@@ -137,7 +151,7 @@ fn put_counters(w: &mut [u64], s: State) {
 
 // The record, into words 0 to 27.
 pub(crate) fn put_state(w: &mut [u64], s: State) {
-    put_picture(w, s.picture);
+    put_chosen(w, s.chosen);
     put_counters(w, s);
     put_last(w, 8, s.front);
     put_last(w, 18, s.back);

@@ -3,6 +3,7 @@ ghost use mathlib.Core.Path.{_≡_};
 ghost use Prim.Native.Nat.{_<_};
 ghost use mathlib.Core.Bool.{true};
 ghost use lib.ListN.{length};
+ghost use Rattle.histories.specs.Counting.{Same};
 
 pub(crate) fn wide(b: u8) -> u64
     ensures { λ r. ⌜ (r ≡ b) × (r < 256) ⌝ }
@@ -57,10 +58,11 @@ fn are_same_words(a: &[u64], b: &[u64]) -> bool
     true
 }
 
-// Whether a call left what the list wants.
+// Whether a call left what the list wants, every word and every byte.
 pub(crate) fn are_same(words: &[u64], bytes: &[u8], got: &[u64], left: &[u8]) -> bool
     requires { ⌜ length (now words) ≡ length (now got) ⌝ }
-    ensures { λ r. ⌜ (r ≡ true → (now (words .entry) ≡ now (got .entry)) × (now (bytes .entry) ≡ now (left .entry))) ⌝ }
+    ensures { λ r. ⌜ (r ≡ true → Same (now (words .entry)) (now (bytes .entry)) (now (got .entry)) (now (left .entry))) ⌝ }
+    ensures { λ r. ⌜ (Same (now (words .entry)) (now (bytes .entry)) (now (got .entry)) (now (left .entry)) → r ≡ true) ⌝ }
 {
     are_same_words(words, got) & check::same(bytes, left)
 }

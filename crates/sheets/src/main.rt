@@ -1,18 +1,10 @@
-// Replays sheets: the file `cases` has how many there are in two bytes, then for each the sheet and the text that it must print, both packed as runs.
-// A run is a length byte, a count in two bytes and so many bytes, which stand there that often; a length byte 0 (and a count) ends the text.
-// make.py beside this folder's data/ computes what is expected by itself, from document 01.
+// Plays sheets through the program's work, from file to file, and prints what the files then hold, each behind its sheet's number and its own
+// length; the file stdout has what must come. Nothing is counted or compared here. By the length a text that went elsewhere is missed.
+// data/sheets has how many there are in two bytes, the higher first, then for each its length in two and its bytes. make.py, beside this
+// crate's folders, works out by itself what they print, from document 01.
 ghost use mathlib.Core.Path.{_≡_};
-ghost use mathlib.Core.Bool.{true};
 ghost use Prim.Native.Nat.{_+_, _*_, _≤_, _<_};
 ghost use lib.ListN.{length};
-ghost use Rattle.sheet.specs.Printed.{textOf};
-
-// How many sheets agreed, how many did not, and the number of the first that did not.
-struct Tally {
-    agree: u64,
-    differ: u64,
-    first: u64,
-}
 
 fn place(b: u8) -> usize
     ensures { λ r. ⌜ (r ≡ b) × (r < 256) ⌝ }
@@ -27,138 +19,78 @@ fn number(high: u8, low: u8) -> usize
     place(high) * 256 + place(low)
 }
 
-// A piece put at a place, if there is room for it; answers the place behind it.
-fn put_piece(out: &mut [u8], at: usize, piece: &[u8]) -> usize
-    requires { ⌜ at ≤ length (now out) ⌝ }
-    ensures { λ r. ⌜ r ≤ length (now (out .entry)) ⌝ }
+// The number in the next two bytes of a file; 0 for those that are not there.
+fn read_number(fd: i32) -> usize
+    ensures { λ r. ⌜ r < 65536 ⌝ }
 {
-    let n = piece.len();
-    if out.len() - at < n {
-        return at;
-    }
-    for i in 0..n {
-        out[at + i] = piece[i];
-    }
-    at + n
+    let mut two = [0u8; 2];
+    io::read_full(fd, &mut two);
+    number(two[0], two[1])
 }
 
-// The same so many times.
-fn put_times(out: &mut [u8], at: usize, piece: &[u8], count: usize) -> usize
-    requires { ⌜ at ≤ length (now out) ⌝ }
-    ensures { λ r. ⌜ r ≤ length (now (out .entry)) ⌝ }
+// The next bytes of a file, as many as are asked for; those that are not there stay 0.
+fn read_part(fd: i32, out: &mut [u8], n: usize)
+    requires { ⌜ n ≤ length (now out) ⌝ }
 {
-    let mut at = at;
-    for i in 0..count {
-        at = put_piece(out, at, piece);
-    }
-    at
+    io::read_full(fd, &mut out[0..n]);
 }
 
-// The next bytes of the file, as many as are asked for.
-fn read_piece(fd: i32, piece: &mut [u8], n: usize)
-    requires { ⌜ n ≤ length (now piece) ⌝ }
-{
-    io::read_full(fd, &mut piece[0..n]);
+// The file `sheet` holds these bytes and no others.
+fn put_sheet(bytes: &[u8]) {
+    let fd = os::open_overwrite(b"sheet");
+    io::write_all(fd, bytes);
+    libc::close(fd);
 }
 
-// A run of the file, put at a place.
-fn put_run(fd: i32, out: &mut [u8], at: usize, n: usize, count: usize) -> usize
-    requires { ⌜ (at ≤ length (now out)) × (n < 256) ⌝ }
-    ensures { λ r. ⌜ r ≤ length (now (out .entry)) ⌝ }
-{
-    let mut piece = [0u8; 256];
-    read_piece(fd, &mut piece, n);
-    put_times(out, at, &piece[0..n], count)
-}
-
-// The next text of the file, unpacked; answers its length.
-fn unpack(fd: i32, out: &mut [u8]) -> usize
-    ensures { λ r. ⌜ r ≤ length (now (out .entry)) ⌝ }
-{
-    let mut at = 0;
-    let mut turns: usize = 65536;
-    while 0 < turns {
-        let mut head = [0u8; 3];
-        io::read_full(fd, &mut head);
-        if head[0] == 0 {
-            return at;
-        }
-        at = put_run(fd, out, at, place(head[0]), number(head[1], head[2]));
-        turns -= 1;
-    }
-    at
-}
-
-// Whether a sheet prints a text.
-fn prints(input: &[u8], want: &[u8]) -> bool
-    ensures { λ r. ⌜ (r ≡ true → textOf (now (input .entry)) ≡ now (want .entry)) × (textOf (now (input .entry)) ≡ now (want .entry) → r ≡ true) ⌝ }
-{
+// From the file `sheet` to the file `text`.
+fn chart_files() {
+    let mut sheet = [0u8; 16385];
     let mut text = [0u8; 8704];
-    let r = sheet::chart_sheet(input, &mut text);
-    check::same(&text[0..r], want)
-}
-
-// The counts with one sheet more, which has a number and agreed or not.
-fn counted(t: Tally, ok: bool, at: u64) -> Tally
-    requires { ⌜ t .agree + t .differ < 65536 ⌝ }
-    ensures { λ r. ⌜ r .agree + r .differ ≡ t .agree + t .differ + 1 ⌝ }
-{
-    if ok {
-        return Tally {
-            agree: t.agree + 1,
-            differ: t.differ,
-            first: t.first,
-        };
-    }
-    if t.differ == 0 {
-        return Tally {
-            agree: t.agree,
-            differ: 1,
-            first: at,
-        };
-    }
-    Tally {
-        agree: t.agree,
-        differ: t.differ + 1,
-        first: t.first,
-    }
-}
-
-// All sheets of the file.
-fn replay(fd: i32) -> Tally
-    ensures { λ r. ⌜ r .agree + r .differ < 65536 ⌝ }
-{
-    let mut head = [0u8; 2];
-    io::read_full(fd, &mut head);
-    let cases = number(head[0], head[1]);
-    let mut input = [0u8; 16400];
-    let mut want = [0u8; 8704];
-    let mut t = Tally {
-        agree: 0,
-        differ: 0,
-        first: 0,
-    };
-    for i in 0..cases {
-        let n = unpack(fd, &mut input);
-        let m = unpack(fd, &mut want);
-        t = counted(t, prints(&input[0..n], &want[0..m]), i as u64);
-    }
-    t
+    let input = os::open_read(b"sheet");
+    let output = os::open_overwrite(b"text");
+    program::chart(input, output, &mut sheet, &mut text);
+    libc::close(input);
+    libc::close(output);
 }
 
 fn say(word: &[u8], n: u64) {
     io::write_all(1, word);
     io::print_decimal(1, n);
+}
+
+// Prints a sheet's number, how many bytes the file `text` holds, and these; there is room for more than a text may have.
+fn show_text(number: u64) {
+    let mut text = [0u8; 16384];
+    let fd = os::open_read(b"text");
+    let n = io::read_full(fd, &mut text);
+    libc::close(fd);
+    say(b"sheet ", number);
+    say(b", bytes ", n as u64);
     io::write_all(1, b"\n");
+    io::write_all(1, &text[0..n]);
+}
+
+// The next sheet of a file, which has a number.
+fn play(fd: i32, number: u64) {
+    let mut sheet = [0u8; 65536];
+    let n = read_number(fd);
+    read_part(fd, &mut sheet, n);
+    put_sheet(&sheet[0..n]);
+    chart_files();
+    show_text(number);
+}
+
+// So many of them.
+fn play_all(fd: i32, count: usize)
+    requires { ⌜ count < 65536 ⌝ }
+{
+    for i in 0..count {
+        play(fd, i as u64 + 1);
+    }
 }
 
 fn main() {
-    let fd = os::open_read(b"cases");
-    let t = replay(fd);
+    let fd = os::open_read(b"sheets");
+    play_all(fd, read_number(fd));
     libc::close(fd);
-    say(b"sheets that print their text: ", t.agree);
-    say(b"sheets that do not: ", t.differ);
-    if 0 < t.differ {
-        say(b"the first of these is number ", t.first);
-    }
 }

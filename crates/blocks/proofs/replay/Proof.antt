@@ -4,11 +4,12 @@ use Prim.Native.Nat.{_+_, _≤_}
 use native.Mathlib.Omega.{arith}
 use lib.ListN.{length}
 use borrow.Author.Needs.{needs}
+use Rattle.blocks.specs.Replay.{records}
 use Rattle.blocks.proofs.replay.Statement.{statement}
 use Rattle.blocks.proofs.replay.Tie as tie
 
 abbrev Inv-loop : tie.InvT-loop
-Inv-loop fd ring₀ s₀ turns₀ ring s turns = (s .agree + s .differ + s .setup + turns ≤ 1000000) × (s .len ≤ 192) × (length ring ≡ length ring₀)
+Inv-loop fd ring₀ s₀ turns₀ ring s turns = (records (s .tally) + turns ≤ 1000000) × (s .queue .len ≤ 192) × (length ring ≡ length ring₀)
 
 abbrev μ-loop : tie.MeasureT-loop
 μ-loop fd ring₀ s₀ turns₀ ring s turns = turns

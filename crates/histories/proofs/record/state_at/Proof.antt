@@ -4,8 +4,8 @@ use borrow.Author.Needs.{needs}
 use Rattle.histories.proofs.record.state_at.Statement.{statement}
 use Rattle.histories.proofs.record.state_at.Tie as tie
 
-picture-at-requires : tie.Need-picture-at-requires
-picture-at-requires c κs = search needs
+chosen-at-requires : tie.Need-chosen-at-requires
+chosen-at-requires c κs = search needs
 
 last-at-requires : tie.Need-last-at-requires
 last-at-requires c κs = search needs
@@ -30,13 +30,13 @@ shared-slice-read-t16 c = search needs
 
 returns : tie.Need-returns
 unfolding stateAt
-returns c = rw (c .before .before .before .before .before .before .before .picture-at .ensures, c .before .before .before .before .before .before .last-at .ensures, c .before .before .before .before .before .last-at2 .ensures)
+returns c = rw (c .before .before .before .before .before .before .before .chosen-at .ensures, c .before .before .before .before .before .before .last-at .ensures, c .before .before .before .before .before .last-at2 .ensures)
 
 pub state-at-spec : {M : Type 1} → statement M
 state-at-spec =
     tie.close
     (tie.spec
-    picture-at-requires
+    chosen-at-requires
     last-at-requires
     last-at-requires-2
     shared-slice-read-t6
