@@ -1,6 +1,7 @@
 /* Smyrilox: verified picture refinement, for programs in C and whatever calls C.
  *
- * Link target/staticlib/libcapi.a, which `rt staticlib capi` writes (x86-64 Linux, System V calling convention).
+ * Link libsmyrilox, which `bindings/build` writes and `bindings/install PREFIX` installs, or target/staticlib/libcapi.a, which
+ * `rt staticlib capi` proves and writes and which libsmyrilox holds (x86-64 Linux, System V calling convention).
  * A picture is refined by a caller who owns three things: the record (smyrilox_state, by value), the ring (bytes that hold the queue of
  * blocks) and the cells (64-bit numbers, one a pixel, rows from the top). The engine keeps nothing between calls and allocates nothing.
  *
@@ -8,15 +9,24 @@
  *     children, verdicts, step   the caller is asked about up to four blocks, answers each with a byte, and the step is taken;
  *                                or run, which takes the verdicts from a tape
  *     picture, counts            what is known so far
+ *     move_queue                 a step that finds no room is refused, and goes on in a longer ring
  *
- * What must be kept, since no function can test it: record, ring and cells belong together. They are the ones that setup and the calls
- * since left, in one piece, and a ring or cells in use get no second setup. Whatever else is handed in is tested, and refused by number.
+ * What a caller owes. No function can test these, and a call without the first five has no meaning at all:
+ *     pointers     none is NULL, also where its count is 0; one to cells is aligned as a uint64_t is; a bool is 0 or 1
+ *     counts       a buffer has as many elements as the count beside its pointer says
+ *     no overlap   a buffer that is written shares no byte with another buffer of the call
+ *     alone        while a call lasts, nobody else writes its buffers, or reads those that it writes
+ *     stack        it has room for the call, some kilobytes: docs/SPEED.md has what was measured, and no theorem bounds it
+ *     together     record, ring and cells are the ones that setup and the calls since left, in one piece, and a ring or cells in use get
+ *                  no second setup. Made up or mixed, they cost the meaning of the picture and nothing else: every call still ends, and
+ *                  writes only where it says below
+ * Nothing else is owed: all other numbers, records and bytes may be handed in, and what is wrong with them is refused by number.
  *
- * Refusals. Every answer has a refusal: 0, or one of the numbers below. A refused call has written nothing, and a step or a run that is
- * refused hands back the record that it was given. Where several apply, the one that its function lists first is given.
+ * Refusals. Every answer has a refusal: 0, or one of the numbers below. A refused call has written nothing, and a step, a run or a move
+ * that is refused hands back the record that it was given. Where several apply, the one that its function lists first is given.
  *
- * Buffers are a pointer and a count of elements. A pointer is never NULL, also where the count is 0. Buffers that are written overlap
- * no other buffer of the call.
+ * Zero is not a safe filler. A zeroed verdict says "no", a zeroed picture is all white, and zeroed cells read white once a block was taken:
+ * fill verdicts with SMYRILOX_UNDECIDED and pictures with SMYRILOX_UNCERTAIN before use, or look at every answer's refusal.
  */
 #ifndef SMYRILOX_H
 #define SMYRILOX_H
@@ -57,15 +67,27 @@ enum {
     SMYRILOX_T = 1        /* a real parameter */
 };
 
-/* A verdict byte, for each child of a step in the order of the listing:
- *     bits 7 and 6   0 false: in the pixels that the child covers, no mix of the child is a solution
- *                    1 undecided, which is always right
- *                    2 true: each pixel that the child covers holds a solution
- *     bit 5          below level 0 only: points of the child may be sampled. A true verdict there counts only with it: 0xA0 marks the
- *                    pixel, 0x80 is taken as undecided
- *     bits 4 to 0    below level 0 only, and only with "undecided" and bit 5: a solution was found at the simple fraction, bottom
- *                    left, bottom right, top left, top right
- * So 0x00, 0x40, 0x80 on every level; below level 0 also 0x20, 0xA0 and 0x60 to 0x7F. */
+/* A verdict: a byte for each child of a step, in the order of the listing. A child's square, and a pixel's, has its edges included:
+ * docs/EVALUATOR.md says what that asks of an evaluator.
+ *     SMYRILOX_NO            in the pixels that the child covers, no mix of the child is a solution
+ *     SMYRILOX_UNDECIDED     always right
+ *     SMYRILOX_YES           each pixel that the child covers holds a solution; below level 0 this counts as undecided
+ * Below level 0, where a child is a part of one pixel, also:
+ *     SMYRILOX_AREA          added to one of these: points of the child may be sampled. A "yes" is SMYRILOX_YES | SMYRILOX_AREA there
+ *     SMYRILOX_AT_..         added to SMYRILOX_UNDECIDED | SMYRILOX_AREA: a solution was found at this point of the child
+ * Every other byte is refused by 5. SMYRILOX_NO is 0: a verdict that nobody has written, in zeroed memory, says no, and its pixels turn
+ * white. The bytes of a picture (SMYRILOX_FALSE and so on) are no verdicts. */
+enum {
+    SMYRILOX_NO = 0x00,
+    SMYRILOX_UNDECIDED = 0x40,
+    SMYRILOX_YES = 0x80,
+    SMYRILOX_AREA = 0x20,
+    SMYRILOX_AT_SIMPLE_FRACTION = 0x10,
+    SMYRILOX_AT_BOTTOM_LEFT = 0x08,
+    SMYRILOX_AT_BOTTOM_RIGHT = 0x04,
+    SMYRILOX_AT_TOP_LEFT = 0x02,
+    SMYRILOX_AT_TOP_RIGHT = 0x01
+};
 
 /* How a run ended. */
 enum {
@@ -76,7 +98,7 @@ enum {
     SMYRILOX_STOP = 4     /* a step was refused; the steps before it are finished */
 };
 
-/* The bytes of a picture. */
+/* The bytes of a picture: white, grey, black. */
 enum {
     SMYRILOX_FALSE = 0,
     SMYRILOX_UNCERTAIN = 1,
@@ -97,7 +119,7 @@ typedef struct {
     smyrilox_interval t;
 } smyrilox_ranges;
 
-/* A coordinate: from index * 2^level to (index + 1) * 2^level in pixels. Legal with an index below 2^47 and a level from -32 to 15. */
+/* A coordinate: from index * 2^level to (index + 1) * 2^level in pixels, both edges included. Legal with an index below 2^47 and a level from -32 to 15. */
 typedef struct {
     uint64_t index;
     int32_t level;
@@ -113,17 +135,22 @@ typedef struct {
     smyrilox_interval t;
 } smyrilox_last;
 
-/* What a setup chose, and no step changes. */
+/* What a setup chooses, and no step changes: the sides in pixels and the variables in use. The reserved bytes are kept for what later
+ * releases let a setup choose. Write them 0. Today setup makes them 0 whatever they are, and nothing looks at them, so that a record that
+ * is stored raw means the same to a later release. */
 typedef struct {
     uint32_t width;
     uint32_t height;
     uint8_t set;
+    uint8_t reserved1;
+    uint8_t reserved2;
+    uint8_t reserved3;
 } smyrilox_chosen;
 
 /* The record. A caller hands it on as it came; `taken` is also the number of steps finished, `queued - taken` the blocks waiting,
  * and `used` the bytes of the ring that hold them. */
 typedef struct {
-    smyrilox_chosen picture;
+    smyrilox_chosen chosen;
     uint64_t taken;
     uint64_t queued;
     size_t len;
@@ -158,6 +185,11 @@ typedef struct {
     uint64_t refusal;
     smyrilox_state state;
 } smyrilox_started;
+
+typedef struct {
+    uint64_t refusal;
+    smyrilox_state state;
+} smyrilox_moved;
 
 typedef struct {
     uint64_t refusal;
@@ -228,17 +260,22 @@ typedef struct {
  * Refused by 1; then the value is 0. Writes nothing. */
 smyrilox_number smyrilox_cells(uint32_t width, uint32_t height);
 
-/* The shortest ring, in bytes, with which a setup is not refused by 6. It does not depend on the sides. What later steps need is not
- * promised: a step that finds no room is refused by 6, and the way on is an evaluator that decides more and is still right.
+/* The shortest ring, in bytes, with which a setup is not refused by 6. It does not depend on the sides. Later steps need more: a step that
+ * finds no room is refused by 6, and the way on is a move of the queue to a longer ring.
  * Refused by 1, 3 in this order; then the value is 0. Writes nothing. */
-smyrilox_number smyrilox_least_ring(uint32_t width, uint32_t height, uint8_t set, smyrilox_ranges ranges);
+smyrilox_number smyrilox_least_ring(smyrilox_chosen chosen, smyrilox_ranges ranges);
+
+/* A ring, in bytes, with which none of the first `steps` steps from this setup is refused by 6, whatever the verdicts: the least ring, and
+ * for each step 27 bytes, or 50 + 18 u where the set has u parameters. A 64-bit number that has not wrapped.
+ * Refused by 1, 3 in this order; then the value is 0. Writes nothing. */
+smyrilox_number smyrilox_enough_ring(smyrilox_chosen chosen, smyrilox_ranges ranges, uint32_t steps);
 
 /* Begins a picture: the block that covers all of it, cut first in each used parameter, is queued, and every pixel's cell names the last
  * block queued. Answers the record.
  * Refused by 1, 2, 3, 6 in this order; the record is then one that every call refuses by 8.
  * Writes the blocks' codes to ring[0..state.used) and the first width * height cells. */
-smyrilox_started smyrilox_setup(uint32_t width, uint32_t height, uint8_t set, smyrilox_ranges ranges,
-                                uint8_t *ring, size_t ring_len, uint64_t *cells, size_t cells_len);
+smyrilox_started smyrilox_setup(smyrilox_chosen chosen, smyrilox_ranges ranges, uint8_t *ring, size_t ring_len,
+                                uint64_t *cells, size_t cells_len);
 
 /* The children of the front block, the first `count` of `at`, one to four: what the next step asks verdicts for, in this order. The
  * places behind hold no child.
@@ -256,17 +293,27 @@ smyrilox_stepped smyrilox_step(smyrilox_state state, uint8_t *ring, size_t ring_
 
 /* Steps on a tape of verdicts until, tested in this order, the queue is empty (done, or limit), `budget` steps are finished (more), or
  * a step is refused (stop; its number is in `stop`, which is 0 otherwise). Answers the record that the finished steps leave, their
- * number, and the sums of their evaluations and tape bytes.
+ * number, and the sums of their evaluations and tape bytes. The tape has one byte for each child of each step, also for a child that is
+ * skipped: one byte left out shifts all that follow to other children, and nothing can notice.
  * Refused by 8 for the record, 2; then ending, stop and all sums are 0. Writes what the finished steps write. */
 smyrilox_ran smyrilox_run(smyrilox_state state, uint8_t *ring, size_t ring_len, uint64_t *cells, size_t cells_len,
                           const uint8_t *tape, size_t tape_len, uint32_t budget);
 
+/* Moves the queue to another ring, longer or shorter: the same blocks in the same order, their codes from other[0] on. Answers the record
+ * that goes with the other ring; cells and counts are as they were. The cells go on with the new record: the old record and the old ring
+ * are not to be used any more.
+ * Refused by 8 for the record, which has the old ring's length, then by 6 where the codes do not fit or the other ring has no byte; the
+ * record is then the one that was given. Writes other[0..state.used). The two rings share no byte. */
+smyrilox_moved smyrilox_move_queue(smyrilox_state state, const uint8_t *ring, size_t ring_len, uint8_t *other, size_t other_len);
+
 /* Writes a byte for each pixel, rows from the top: SMYRILOX_FALSE, SMYRILOX_UNCERTAIN or SMYRILOX_TRUE. Bytes beyond the pixels stay.
- * Answers the refusal, or 0: 8 for the record, 2, 12, 8 for a cell. */
+ * Answers the refusal, or 0: 8 for the record, 2, 12, 8 for a cell. A refused picture has drawn nothing: the buffer is as it was, and a
+ * zeroed one then looks all white. Fill it with SMYRILOX_UNCERTAIN first, or look at the answer. */
 uint64_t smyrilox_picture(smyrilox_state state, const uint64_t *cells, size_t cells_len, uint8_t *picture, size_t picture_len);
 
 /* The counts of the picture as it is.
- * Refused by 8 for the record, 2, 8 for a cell; then all counts are 0. Writes nothing. */
+ * Refused by 8 for the record, 2, 8 for a cell; then all counts are 0, `uncertain` too, which is not "finished": look at the refusal.
+ * Writes nothing. */
 smyrilox_counted smyrilox_counts(smyrilox_state state, const uint64_t *cells, size_t cells_len);
 
 /* THE LEAVES: none writes anything. */
@@ -306,6 +353,55 @@ smyrilox_halved smyrilox_halves(smyrilox_coordinate c);
 /* Whether a coordinate has a level below it: 1 yes, 0 no; its halves may still be refused for their index. Refused by 8 for an index or a
  * level outside the ranges; then the value is 0. */
 smyrilox_number smyrilox_is_halvable(smyrilox_coordinate c);
+
+/* THE LAYOUT: where each field lies, in bytes, as the library has it. A compiler that is told to lay records out otherwise stops here. */
+
+/* A number made of the sizes and places below, which libsmyrilox (not libcapi.a) was built with: a program that loads a library at run
+ * time compares it with the number of its own records before it hands one over. bindings/c/layout.c says how it is made. */
+uint64_t smyrilox_layout(void);
+
+#ifdef __cplusplus
+#define SMYRILOX_SURE(fact) static_assert(fact, #fact)
+#else
+#define SMYRILOX_SURE(fact) _Static_assert(fact, #fact)
+#endif
+#define SMYRILOX_SIZE(record, bytes) SMYRILOX_SURE(sizeof(smyrilox_##record) == bytes)
+#define SMYRILOX_PLACE(record, field, byte) SMYRILOX_SURE(offsetof(smyrilox_##record, field) == byte)
+
+SMYRILOX_SIZE(interval, 16); SMYRILOX_PLACE(interval, lower, 0); SMYRILOX_PLACE(interval, upper, 8);
+SMYRILOX_SIZE(ranges, 64); SMYRILOX_PLACE(ranges, m, 0); SMYRILOX_PLACE(ranges, n, 16); SMYRILOX_PLACE(ranges, theta, 32);
+    SMYRILOX_PLACE(ranges, t, 48);
+SMYRILOX_SIZE(coordinate, 16); SMYRILOX_PLACE(coordinate, index, 0); SMYRILOX_PLACE(coordinate, level, 8);
+SMYRILOX_SIZE(last, 80); SMYRILOX_PLACE(last, x, 0); SMYRILOX_PLACE(last, y, 8); SMYRILOX_PLACE(last, m, 16); SMYRILOX_PLACE(last, n, 32);
+    SMYRILOX_PLACE(last, theta, 48); SMYRILOX_PLACE(last, t, 64);
+SMYRILOX_SIZE(chosen, 12); SMYRILOX_PLACE(chosen, width, 0); SMYRILOX_PLACE(chosen, height, 4); SMYRILOX_PLACE(chosen, set, 8);
+    SMYRILOX_PLACE(chosen, reserved1, 9); SMYRILOX_PLACE(chosen, reserved2, 10); SMYRILOX_PLACE(chosen, reserved3, 11);
+SMYRILOX_SIZE(state, 216); SMYRILOX_PLACE(state, chosen, 0); SMYRILOX_PLACE(state, taken, 16); SMYRILOX_PLACE(state, queued, 24);
+    SMYRILOX_PLACE(state, len, 32); SMYRILOX_PLACE(state, head, 40); SMYRILOX_PLACE(state, used, 48); SMYRILOX_PLACE(state, front, 56);
+    SMYRILOX_PLACE(state, back, 136);
+SMYRILOX_SIZE(child, 96); SMYRILOX_PLACE(child, x, 0); SMYRILOX_PLACE(child, y, 16); SMYRILOX_PLACE(child, m, 32);
+    SMYRILOX_PLACE(child, n, 48); SMYRILOX_PLACE(child, theta, 64); SMYRILOX_PLACE(child, t, 80);
+SMYRILOX_SIZE(number, 16); SMYRILOX_PLACE(number, refusal, 0); SMYRILOX_PLACE(number, value, 8);
+SMYRILOX_SIZE(point, 16); SMYRILOX_PLACE(point, refusal, 0); SMYRILOX_PLACE(point, value, 8);
+SMYRILOX_SIZE(started, 224); SMYRILOX_PLACE(started, refusal, 0); SMYRILOX_PLACE(started, state, 8);
+SMYRILOX_SIZE(moved, 224); SMYRILOX_PLACE(moved, refusal, 0); SMYRILOX_PLACE(moved, state, 8);
+SMYRILOX_SIZE(listed, 400); SMYRILOX_PLACE(listed, refusal, 0); SMYRILOX_PLACE(listed, count, 8); SMYRILOX_PLACE(listed, at, 16);
+SMYRILOX_SIZE(stepped, 240); SMYRILOX_PLACE(stepped, refusal, 0); SMYRILOX_PLACE(stepped, evaluations, 8);
+    SMYRILOX_PLACE(stepped, tape, 16); SMYRILOX_PLACE(stepped, state, 24);
+SMYRILOX_SIZE(ran, 264); SMYRILOX_PLACE(ran, refusal, 0); SMYRILOX_PLACE(ran, ending, 8); SMYRILOX_PLACE(ran, stop, 16);
+    SMYRILOX_PLACE(ran, steps, 24); SMYRILOX_PLACE(ran, evaluations, 32); SMYRILOX_PLACE(ran, tape, 40); SMYRILOX_PLACE(ran, state, 48);
+SMYRILOX_SIZE(tally, 48); SMYRILOX_PLACE(tally, trues, 0); SMYRILOX_PLACE(tally, falses, 8); SMYRILOX_PLACE(tally, uncertain, 16);
+    SMYRILOX_PLACE(tally, givenup, 24); SMYRILOX_PLACE(tally, queued, 32); SMYRILOX_PLACE(tally, share, 40);
+SMYRILOX_SIZE(counted, 56); SMYRILOX_PLACE(counted, refusal, 0); SMYRILOX_PLACE(counted, counts, 8);
+SMYRILOX_SIZE(pieces, 64); SMYRILOX_PLACE(pieces, refusal, 0); SMYRILOX_PLACE(pieces, count, 8); SMYRILOX_PLACE(pieces, at, 16);
+SMYRILOX_SIZE(code, 32); SMYRILOX_PLACE(code, refusal, 0); SMYRILOX_PLACE(code, head, 8); SMYRILOX_PLACE(code, tail, 16);
+    SMYRILOX_PLACE(code, count, 24);
+SMYRILOX_SIZE(read, 24); SMYRILOX_PLACE(read, refusal, 0); SMYRILOX_PLACE(read, value, 8); SMYRILOX_PLACE(read, count, 16);
+SMYRILOX_SIZE(halved, 40); SMYRILOX_PLACE(halved, refusal, 0); SMYRILOX_PLACE(halved, low, 8); SMYRILOX_PLACE(halved, high, 24);
+
+#undef SMYRILOX_PLACE
+#undef SMYRILOX_SIZE
+#undef SMYRILOX_SURE
 
 #ifdef __cplusplus
 }

@@ -1,13 +1,14 @@
-"""The values of document 01, refusals, and charts on disk, through the Python module."""
+"""The values of document 01, refusals and verdicts, through the Python module."""
 
 import array
 import copy
-import struct
+import ctypes
+import pickle
 import threading
 import unittest
 
 import smyrilox
-from smyrilox import NO, UNDECIDED, YES, Chart, Counts, NotLoaded, Reading, Refused, Run, Setup, Step, M, X, Y
+from smyrilox import AREA, NO, UNDECIDED, YES, Chart, Counts, Reading, Refused, Run, Setup, Step, Verdict, M, X, Y, yes_for
 
 
 def begun():
@@ -37,7 +38,7 @@ class Charts(Case):
         self.assertEqual(chart.children()[1].x.span, (4.0, 8.0))
         self.assertEqual(chart.step(b"\x40\x40"), Step(2, 2))
         self.assertEqual((chart.steps, chart.queued, chart.ring_use), (1, 2, (10, 64)))
-        self.assertEqual(chart.save()[232 : 232 + 15].hex(), "010301030001020102000302010200")
+        self.assertEqual(bytes(chart._ring)[:15].hex(), "010301030001020102000302010200")
 
     def test_one_by_one_ends_given_up(self):
         chart = Chart(Setup(1, 1, X | Y), ring=16384)
@@ -87,8 +88,137 @@ class Refusals(Case):
         chart = Chart(Setup(4, 4, X | Y), 19)
         before = chart.save()
         self.refused(6, chart.step, b"\x40" * 4)
-        self.assertEqual(chart.run(b"\x40" * 4, 1), Run("stop", 6, 0, 0, 0))
+        self.assertEqual(chart.run(b"\x40" * 4, 1), Run("stop", 6, 0, 0, 0, "refused 6: the new blocks do not fit the ring"))
         self.assertEqual(chart.save(), before)
+
+    def test_what_is_wrong_with_the_verdicts(self):
+        chart = Chart(Setup(2, 1, X | Y), 64)
+        with self.assertRaises(Refused) as caught:
+            chart.step(b"\0\0\0")
+        self.assertEqual(str(caught.exception), "refused 4: 3 verdicts for 2 children")
+        self.assertEqual((caught.exception.number, caught.exception.given, caught.exception.children), (4, 3, 2))
+        chart.step(b"\x40\x40")
+        for call in (chart.step, lambda v: chart.step_with(lambda b: v[b.x.index + 2 * b.y.index])):
+            with self.assertRaises(Refused) as caught:
+                call(b"\x40\0\x01\xc0")
+            why = caught.exception
+            self.assertEqual(str(why), "refused 5: child 2 (the first is 0), on level -1, cannot have the verdict 0x01")
+            self.assertEqual((why.number, why.child, why.level, why.byte), (5, 2, -1, 1))
+        self.assertEqual(str(pickle.loads(pickle.dumps(why))), str(why))
+        self.assertEqual(chart.run(b"\0\0\0", 9), Run("stop", 4, 0, 0, 0, "refused 4: 3 verdicts for 4 children"))
+        self.assertEqual(chart.run(b"\0\0\0\xd0", 9).why, "refused 5: child 3 (the first is 0), on level -1, cannot have the verdict 0xd0")
+
+    def test_numbers_have_their_words(self):
+        self.assertEqual(sorted(smyrilox.WORDS), list(range(1, 15)))
+        self.assertEqual(str(Refused(13)), "refused 13: the queue is empty")
+        self.assertEqual(str(Refused(23)), "refused 23: this module has no words for it")
+
+
+class bool_:
+    """A value like numpy's bool: no int, but compared as one, and one wherever an index is asked for."""
+
+    def __init__(self, value):
+        self.value = bool(value)
+
+    def __bool__(self):
+        return self.value
+
+    def __index__(self):
+        return int(self.value)
+
+    __int__ = __index__
+
+    def __le__(self, other):
+        return int(self) <= other
+
+    def __ge__(self, other):
+        return int(self) >= other
+
+
+class Verdicts(Case):
+    """A falsy answer is not a no: were False taken for the byte 0, a whole chart would turn white."""
+
+    def not_taken(self, answer):
+        chart = Chart(Setup(2, 1, X | Y), 64)
+        before = chart.save()
+        with self.assertRaises(TypeError, msg=repr(answer)):
+            chart.step_with(lambda b: answer)
+        self.assertRaises(TypeError, Verdict, answer)
+        self.assertEqual(chart.save(), before)
+        self.assertEqual(chart.counts().no, 0)
+
+    def test_bools(self):
+        self.not_taken(False)
+        self.not_taken(True)
+
+    def test_readings(self):
+        for reading in Reading:
+            self.not_taken(reading)
+
+    def test_bools_like_numpys(self):
+        self.not_taken(bool_(False))
+        self.not_taken(bool_(True))
+
+    def test_bools_of_numpy(self):
+        try:
+            import numpy
+        except ImportError:
+            self.skipTest("there is no numpy here; a type like its bool is tried beside")
+        self.not_taken(numpy.bool_(False))
+        self.not_taken(numpy.bool_(True))
+        self.assertRaises(TypeError, begun().step, numpy.zeros(4, dtype=bool))
+
+    def test_what_else_counts_as_nothing(self):
+        for answer in (None, 0.0, "", b"", [], ()):
+            self.not_taken(answer)
+
+    def test_memory_of_bools(self):
+        chart = begun()
+        before = chart.save()
+        for lent in ((ctypes.c_bool * 4)(), memoryview(bytes(4)).cast("?"), array.array("b", bytes(4))):
+            self.assertRaises(TypeError, chart.step, lent)
+            self.assertRaises(TypeError, chart.run, lent, 1)
+        self.assertEqual(chart.save(), before)
+        for lent in (bytearray(4), memoryview(bytes(4)), array.array("B", bytes(4)), (ctypes.c_uint8 * 4)()):
+            self.assertEqual(copy.copy(chart).step(lent), Step(4, 4))
+
+    def test_bytes_are_taken(self):
+        for yes in (YES, Verdict(0x80), 0x80):
+            chart = Chart(Setup(2, 1, X | Y), 64)
+            self.assertEqual(chart.step_with(lambda b: yes), Step(2, 2))
+            self.assertEqual(chart.picture(), b"\2\2")
+        for number in (-1, 256):
+            self.assertRaises(ValueError, Chart(Setup(2, 1, X | Y), 64).step_with, lambda b: number)
+
+    def test_together(self):
+        self.assertEqual((YES | AREA, type(YES | AREA), repr(0x20 | UNDECIDED)), (0xA0, Verdict, "Verdict(0x60)"))
+        self.assertEqual([smyrilox.found_at(p) for p in range(5)], [0x70, 0x68, 0x64, 0x62, 0x61])
+        self.assertRaises(TypeError, lambda: YES | True)
+        self.assertEqual(pickle.loads(pickle.dumps(YES)), YES)
+
+    def test_every_byte(self):
+        """On a level above, at and below a pixel: legal exactly if the step is not refused by 5."""
+        for side, level in ((4, 1), (2, 0), (1, -1)):
+            chart = Chart(Setup(side, side, X | Y), 64)
+            child = chart.children()[2]
+            self.assertEqual(child.level, level)
+            for byte in range(256):
+                step = lambda: copy.copy(chart).step(bytes([0, 0, byte, 0]))
+                if Verdict(byte).is_legal_for(child):
+                    self.assertEqual(step().verdicts, 4)
+                else:
+                    self.refused(5, step)
+
+    def test_yes_below_a_pixel(self):
+        """A plain YES counts as undecided there."""
+        for yes, trues in ((YES, 0), (YES | AREA, 1)):
+            chart = Chart(Setup(1, 1, X | Y), 64)
+            chart.step(bytes([yes, NO, NO, NO]))
+            self.assertEqual((chart.counts().yes, chart.queued), (trues, 1 - trues))
+        chart = Chart(Setup(1, 1, X | Y), 64)
+        chart.step_with(yes_for)
+        self.assertEqual((chart.counts().yes, chart.finished), (1, True))
+        self.assertEqual([yes_for(Chart(Setup(side, side, X | Y), 64).children()[0]) for side in (2, 1)], [0x80, 0xA0])
 
 
 class Together(Case):
@@ -136,39 +266,6 @@ class Together(Case):
             self.assertRaises(ValueError, call)
         self.assertRaises(TypeError, chart.step, array.array("I", [0x40, 0x40]))
         self.assertRaises(TypeError, chart.step, 4)
-
-
-class OnDisk(unittest.TestCase):
-    def changed(self, saved, at, to):
-        body = saved[:at] + bytes([to]) + saved[at + 1 : -8]
-        return body + struct.pack("<Q", smyrilox._crc(body))
-
-    def test_the_check(self):
-        self.assertEqual(smyrilox._crc(b"123456789"), 0x995DC9BBDF1939FA)
-
-    def test_a_chart_goes_on(self):
-        chart = begun()
-        loaded = Chart.load(chart.save())
-        for verdicts in (b"\x40\0\x80\0", b"\x80\0"):
-            self.assertEqual(chart.step(verdicts), loaded.step(verdicts))
-            self.assertEqual(chart.save(), loaded.save())
-
-    def test_every_changed_byte_is_noticed(self):
-        saved = begun().save()
-        for at in range(len(saved)):
-            with self.assertRaises((NotLoaded, Refused), msg=at):
-                Chart.load(saved[:at] + bytes([saved[at] ^ 16]) + saved[at + 1 :])
-            with self.assertRaises(NotLoaded, msg=at):
-                Chart.load(saved[:at])
-        with self.assertRaises(NotLoaded):
-            Chart.load(self.changed(saved, 8, 2))
-
-    def test_the_engine_looks_too(self):
-        saved = begun().save()
-        for at, to in ((12, 0), (24, 9), (48, 64), (56, 0), (232 + 64 + 5, 1), (232 + 6, 0x7F)):
-            with self.assertRaises(Refused, msg=at) as caught:
-                Chart.load(self.changed(saved, at, to))
-            self.assertEqual(caught.exception.number, 8)
 
 
 if __name__ == "__main__":

@@ -1,5 +1,7 @@
 //! The memory of a chart.
 
+use crate::{ffi, Refusal};
+
 /// A ring and cells that a chart has to itself.
 pub trait Buffers: sealed::Sealed {
     fn ring(&self) -> &[u8];
@@ -49,8 +51,25 @@ impl Buffers for Lent<'_> {
     }
 }
 
+impl sealed::Sealed for Owned {
+    fn double(&mut self, state: ffi::State) -> Result<ffi::State, Refusal> {
+        let twice = state.len.checked_mul(2).ok_or(Refusal::NoMemory { bytes: u64::MAX })?;
+        self.resize(state, twice)
+    }
+}
+
+impl sealed::Sealed for Lent<'_> {
+    /// What was lent is all there is.
+    fn double(&mut self, _: ffi::State) -> Result<ffi::State, Refusal> {
+        Err(Refusal::Room)
+    }
+}
+
 mod sealed {
-    pub trait Sealed {}
-    impl Sealed for super::Owned {}
-    impl Sealed for super::Lent<'_> {}
+    use crate::{ffi, Refusal};
+
+    pub trait Sealed {
+        /// The record after a move to a ring twice as long, which replaces the old one.
+        fn double(&mut self, state: ffi::State) -> Result<ffi::State, Refusal>;
+    }
 }

@@ -1,15 +1,22 @@
 //! A picture being refined.
 
-use crate::{
-    ffi, Block, Buffers, Children, Lent, Owned, Picture, Refusal, Setup, Verdict,
-};
+use crate::{ffi, Block, Buffers, Children, Lent, Owned, Refusal, Setup, Verdict};
 
 /// The record, the ring and the cells of a picture, which belong together.
 #[derive(Clone)]
 pub struct Chart<B: Buffers = Owned> {
     pub(crate) state: ffi::State,
     pub(crate) buffers: B,
+    /// The setup's ranges; a chart that was saved in layout 1 does not say them.
+    pub(crate) ranges: Option<ffi::Ranges>,
+    /// The caller's words for what the chart is of: they are saved with it, and a load must name them.
+    pub(crate) tag: Vec<u8>,
+    /// Whether a step that finds no room gets a longer ring.
+    pub(crate) grows: bool,
 }
+
+/// The number of `Refusal::Room`.
+const ROOM: u64 = 6;
 
 /// What a step did: the evaluations that it cost and the verdicts that it took.
 #[derive(Clone, Copy, Debug, PartialEq, Eq)]
@@ -41,22 +48,11 @@ pub struct Run {
     pub tape: usize,
 }
 
-/// Pixels by reading, given-up pixels (these are uncertain too), queued blocks, and the settled pixels in thousandths.
-#[derive(Clone, Copy, Debug, PartialEq, Eq)]
-pub struct Counts {
-    pub yes: u64,
-    pub no: u64,
-    pub uncertain: u64,
-    pub given_up: u64,
-    pub queued: u64,
-    pub share: u64,
-}
-
 impl Chart<Owned> {
-    /// Begins a picture, with a ring of so many bytes. A fuller queue needs a larger ring; `Setup::least_ring` is the least to begin with.
+    /// Begins a picture, with a ring of so many bytes. A fuller queue needs a longer ring: `Setup::least_ring` is the least to begin with,
+    /// `Chart::for_steps` takes one that is enough for some steps, and `growing` makes a chart that sees to it.
     pub fn new(setup: &Setup, ring: usize) -> Result<Chart<Owned>, Refusal> {
-        let buffers = Owned { ring: vec![0; ring], cells: vec![0; setup.cells()?] };
-        begin(setup, buffers)
+        begin(setup, Owned::new(ring, setup.cells()?)?)
     }
 }
 
@@ -71,18 +67,23 @@ fn begin<B: Buffers>(s: &Setup, mut buffers: B) -> Result<Chart<B>, Refusal> {
     let (ring, cells) = buffers.both();
     let started = unsafe {
         ffi::smyrilox_setup(
-            s.width, s.height, s.uses.0, s.ranges(),
+            s.chosen(), s.ranges(),
             ring.as_mut_ptr(), ring.len(), cells.as_mut_ptr(), cells.len(),
         )
     };
     Refusal::check(started.refusal)?;
-    Ok(Chart { state: started.state, buffers })
+    Ok(Chart { state: started.state, buffers, ranges: Some(s.used_ranges()), tag: Vec::new(), grows: false })
 }
 
 impl<B: Buffers> Chart<B> {
     /// The sides in pixels.
     pub fn size(&self) -> (u32, u32) {
-        (self.state.picture.width, self.state.picture.height)
+        (self.state.chosen.width, self.state.chosen.height)
+    }
+
+    /// What it was begun with; nothing where it was loaded from layout 1, which does not say the ranges.
+    pub fn setup(&self) -> Option<Setup> {
+        self.ranges.map(|ranges| Setup::of(self.state.chosen, ranges))
     }
 
     /// How many blocks are queued.
@@ -115,17 +116,28 @@ impl<B: Buffers> Chart<B> {
 
     /// One step, with a verdict byte for each child.
     pub fn step(&mut self, verdicts: &[u8]) -> Result<Step, Refusal> {
+        loop {
+            let stepped = self.call_step(verdicts);
+            match stepped.refusal {
+                0 => {
+                    self.state = stepped.state;
+                    return Ok(Step { evaluations: stepped.evaluations, verdicts: stepped.tape });
+                }
+                ROOM if self.grows => self.state = self.buffers.double(self.state)?,
+                number => return Err(self.why(number, verdicts)),
+            }
+        }
+    }
+
+    fn call_step(&mut self, verdicts: &[u8]) -> ffi::Stepped {
         let (ring, cells) = self.buffers.both();
-        let stepped = unsafe {
+        unsafe {
             ffi::smyrilox_step(
                 self.state,
                 ring.as_mut_ptr(), ring.len(), cells.as_mut_ptr(), cells.len(),
                 verdicts.as_ptr(), verdicts.len(),
             )
-        };
-        Refusal::check(stepped.refusal)?;
-        self.state = stepped.state;
-        Ok(Step { evaluations: stepped.evaluations, verdicts: stepped.tape })
+        }
     }
 
     /// One step: the evaluator is asked about each child.
@@ -140,47 +152,60 @@ impl<B: Buffers> Chart<B> {
 
     /// Steps with verdicts from a tape, at most `budget` of them.
     pub fn run(&mut self, tape: &[u8], budget: u32) -> Result<Run, Refusal> {
+        let mut all = Run { ending: Ending::More, steps: 0, evaluations: 0, tape: 0 };
+        loop {
+            let rest = &tape[all.tape..];
+            let ran = self.call_run(rest, budget - all.steps as u32);
+            Refusal::check(ran.refusal)?;
+            self.state = ran.state;
+            all.steps += ran.steps;
+            all.evaluations += ran.evaluations;
+            all.tape += ran.tape;
+            all.ending = self.ending(&ran, &rest[ran.tape..]);
+            match all.ending {
+                Ending::Stop(Refusal::Room) if self.grows => match self.buffers.double(self.state) {
+                    Ok(state) => self.state = state,
+                    Err(why) => return Ok(Run { ending: Ending::Stop(why), ..all }),
+                },
+                _ => return Ok(all),
+            }
+        }
+    }
+
+    fn call_run(&mut self, tape: &[u8], budget: u32) -> ffi::Ran {
         let (ring, cells) = self.buffers.both();
-        let ran = unsafe {
+        unsafe {
             ffi::smyrilox_run(
                 self.state,
                 ring.as_mut_ptr(), ring.len(), cells.as_mut_ptr(), cells.len(),
                 tape.as_ptr(), tape.len(), budget,
             )
-        };
-        Refusal::check(ran.refusal)?;
-        self.state = ran.state;
-        let ending = match ran.ending {
+        }
+    }
+
+    /// How a run ended that has left so much of its tape.
+    fn ending(&self, ran: &ffi::Ran, left: &[u8]) -> Ending {
+        match ran.ending {
             1 => Ending::Done,
             2 => Ending::Limit,
             3 => Ending::More,
-            _ => Ending::Stop(Refusal::check(ran.stop).unwrap_err()),
-        };
-        Ok(Run { ending, steps: ran.steps, evaluations: ran.evaluations, tape: ran.tape })
+            4 => Ending::Stop(self.why(ran.stop, left)),
+            other => panic!("the library says that a run ended by {other}, which is none of its endings: it is not the one of this crate"),
+        }
     }
 
-    /// The picture as it stands.
-    pub fn picture(&self) -> Result<Picture, Refusal> {
-        let (width, height) = self.size();
-        let mut bytes = vec![0; width as usize * height as usize];
-        self.draw(&mut bytes)?;
-        Ok(Picture { width: width as usize, bytes })
+    /// Why the next step was refused, with these verdicts: of 4 and 5, what is wrong with them.
+    fn why(&self, number: u64, verdicts: &[u8]) -> Refusal {
+        match (number, self.children()) {
+            (4, Ok(children)) => Refusal::Verdicts { given: verdicts.len(), children: children.len() },
+            (5, Ok(children)) => first_illegal(&children, verdicts).unwrap_or(Refusal::Other(5)),
+            _ => Refusal::of(number),
+        }
     }
+}
 
-    /// The picture into lent bytes, rows from the top: False 0, Uncertain 1, True 2. Bytes beyond the pixels stay.
-    pub fn draw(&self, bytes: &mut [u8]) -> Result<(), Refusal> {
-        let cells = self.buffers.cells();
-        let answer =
-            unsafe { ffi::smyrilox_picture(self.state, cells.as_ptr(), cells.len(), bytes.as_mut_ptr(), bytes.len()) };
-        Refusal::check(answer)
-    }
-
-    /// The counts as they stand.
-    pub fn counts(&self) -> Result<Counts, Refusal> {
-        let cells = self.buffers.cells();
-        let counted = unsafe { ffi::smyrilox_counts(self.state, cells.as_ptr(), cells.len()) };
-        Refusal::check(counted.refusal)?;
-        let c = counted.counts;
-        Ok(Counts { yes: c.trues, no: c.falses, uncertain: c.uncertain, given_up: c.givenup, queued: c.queued, share: c.share })
-    }
+/// The first child that cannot have its verdict.
+fn first_illegal(children: &[Block], verdicts: &[u8]) -> Option<Refusal> {
+    let child = children.iter().zip(verdicts).position(|(child, byte)| !Verdict(*byte).is_legal_for(child))?;
+    Some(Refusal::Verdict { child, level: children[child].level(), byte: verdicts[child] })
 }

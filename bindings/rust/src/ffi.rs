@@ -1,4 +1,5 @@
-//! What crosses to the library, in the order of its fields: `include/smyrilox.h` says the same in C.
+//! What crosses to the library, in the order of its fields: `include/smyrilox.h` says the same in C, and `layout.rs` asks the library whether
+//! each lies where it has it.
 
 /// An interval; infinite ends are allowed.
 #[repr(C)]
@@ -55,18 +56,22 @@ pub struct Last {
     pub t: Interval,
 }
 
+/// What a setup chooses. The reserved bytes are for what later releases let it choose; they are 0, and nothing looks at them.
 #[repr(C)]
 #[derive(Clone, Copy, Debug, Default, PartialEq)]
 pub struct Chosen {
     pub width: u32,
     pub height: u32,
     pub set: u8,
+    pub reserved1: u8,
+    pub reserved2: u8,
+    pub reserved3: u8,
 }
 
 #[repr(C)]
 #[derive(Clone, Copy, Debug, Default, PartialEq)]
 pub struct State {
-    pub picture: Chosen,
+    pub chosen: Chosen,
     pub taken: u64,
     pub queued: u64,
     pub len: usize,
@@ -79,6 +84,13 @@ pub struct State {
 #[repr(C)]
 #[derive(Clone, Copy, Default)]
 pub struct Started {
+    pub refusal: u64,
+    pub state: State,
+}
+
+#[repr(C)]
+#[derive(Clone, Copy, Default)]
+pub struct Moved {
     pub refusal: u64,
     pub state: State,
 }
@@ -154,12 +166,12 @@ pub struct Pieces {
 }
 
 extern "C" {
+    pub fn smyrilox_layout() -> u64;
     pub fn smyrilox_cells(width: u32, height: u32) -> Number;
-    pub fn smyrilox_least_ring(width: u32, height: u32, set: u8, ranges: Ranges) -> Number;
+    pub fn smyrilox_least_ring(chosen: Chosen, ranges: Ranges) -> Number;
+    pub fn smyrilox_enough_ring(chosen: Chosen, ranges: Ranges, steps: u32) -> Number;
     pub fn smyrilox_setup(
-        width: u32,
-        height: u32,
-        set: u8,
+        chosen: Chosen,
         ranges: Ranges,
         ring: *mut u8,
         ring_len: usize,
@@ -186,6 +198,7 @@ extern "C" {
         tape_len: usize,
         budget: u32,
     ) -> Ran;
+    pub fn smyrilox_move_queue(state: State, ring: *const u8, ring_len: usize, other: *mut u8, other_len: usize) -> Moved;
     pub fn smyrilox_picture(state: State, cells: *const u64, cells_len: usize, picture: *mut u8, picture_len: usize) -> u64;
     pub fn smyrilox_counts(state: State, cells: *const u64, cells_len: usize) -> Counted;
     pub fn smyrilox_midpoint(x: Interval) -> Point;

@@ -9,9 +9,13 @@ pub enum Refusal {
     Side,
     Cells,
     Parameter,
-    Verdicts,
-    Verdict,
+    /// Not one verdict for each child; in a run, what is left of the tape is less.
+    Verdicts { given: usize, children: usize },
+    /// A verdict that its child, by its place in the listing from 0, cannot have on its level.
+    Verdict { child: usize, level: i32, byte: u8 },
     Room,
+    /// As `Room`, where a chart should get a longer ring: there is no memory for so many bytes.
+    NoMemory { bytes: u64 },
     Numbers,
     Damaged,
     TooLarge,
@@ -20,47 +24,64 @@ pub enum Refusal {
     Picture,
     Empty,
     Sheet,
+    /// A number that this crate has no name for: the library is a later one.
+    Other(u64),
 }
 
 use Refusal::*;
 
-/// Each refusal in the order of its number, from 1, with its words.
-const TABLE: [(Refusal, &str); 14] = [
-    (Side, "a side is 0 or over 32768"),
-    (Cells, "there are fewer cells than pixels"),
-    (Parameter, "the set of variables or the range of a parameter is not legal"),
-    (Verdicts, "there is not one verdict for each child"),
-    (Verdict, "a verdict is not legal for its child"),
-    (Room, "the new blocks do not fit the ring"),
-    (Numbers, "the numbers of blocks are used up"),
-    (Damaged, "the record, the front block or a cell is damaged"),
-    (TooLarge, "the number has no code"),
-    (EndsEarly, "the bytes of a code end early"),
-    (HeadZero, "a code begins with the byte 0"),
-    (Picture, "the picture buffer is shorter than the pixels"),
-    (Empty, "the queue is empty"),
-    (Sheet, "the sheet is not one that the program takes"),
+/// The refusals that say no more than their number, with their words.
+const TABLE: [(u64, Refusal, &str); 12] = [
+    (1, Side, "a side is 0 or over 32768"),
+    (2, Cells, "there are fewer cells than pixels"),
+    (3, Parameter, "the set of variables or the range of a parameter is not legal"),
+    (6, Room, "the new blocks do not fit the ring"),
+    (7, Numbers, "the numbers of blocks are used up"),
+    (8, Damaged, "the record, the front block or a cell is damaged"),
+    (9, TooLarge, "the number has no code"),
+    (10, EndsEarly, "the bytes of a code end early"),
+    (11, HeadZero, "a code begins with the byte 0"),
+    (12, Picture, "the picture buffer is shorter than the pixels"),
+    (13, Empty, "the queue is empty"),
+    (14, Sheet, "the sheet is not one that the program takes"),
 ];
 
 impl Refusal {
     /// Its number in the table of refusals.
     pub fn number(self) -> u64 {
-        1 + TABLE.iter().position(|row| row.0 == self).unwrap() as u64
+        match self {
+            Verdicts { .. } => 4,
+            Verdict { .. } => 5,
+            NoMemory { .. } => 6,
+            Other(number) => number,
+            named => TABLE.iter().find(|row| row.1 == named).map_or(0, |row| row.0),
+        }
     }
 
-    /// The refusal with a number; 0 is none.
+    /// The refusal with a number. Only a step or a run refuses verdicts, and says itself which.
+    pub(crate) fn of(number: u64) -> Refusal {
+        TABLE.iter().find(|row| row.0 == number).map_or(Other(number), |row| row.1)
+    }
+
+    /// Refused unless the number is 0.
     pub(crate) fn check(number: u64) -> Result<(), Refusal> {
         match number {
             0 => Ok(()),
-            _ => Err(TABLE[number as usize - 1].0),
+            _ => Err(Refusal::of(number)),
         }
     }
 }
 
 impl fmt::Display for Refusal {
     fn fmt(&self, f: &mut fmt::Formatter) -> fmt::Result {
-        let number = self.number();
-        write!(f, "refused {}: {}", number, TABLE[number as usize - 1].1)
+        write!(f, "refused {}: ", self.number())?;
+        match self {
+            Verdicts { given, children } => write!(f, "{given} verdicts for {children} children"),
+            Verdict { child, level, byte } => write!(f, "child {child} (the first is 0), on level {level}, cannot have the verdict {byte:#04x}"),
+            NoMemory { bytes } => write!(f, "there is no memory for {bytes} bytes"),
+            Other(_) => write!(f, "this crate has no words for it"),
+            named => write!(f, "{}", TABLE.iter().find(|row| row.1 == *named).map_or("", |row| row.2)),
+        }
     }
 }
 

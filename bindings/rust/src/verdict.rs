@@ -2,7 +2,7 @@
 
 use crate::Block;
 
-/// A verdict byte: 2 bits result, 1 bit sample area, 5 bits sample points.
+/// A verdict byte: 2 bits result, 1 bit sample area, 5 bits sample points. The byte 0 says no.
 #[derive(Clone, Copy, Debug, PartialEq, Eq)]
 pub struct Verdict(pub u8);
 
@@ -31,6 +31,17 @@ impl Verdict {
             Verdict::YES.with_area()
         } else {
             Verdict::YES
+        }
+    }
+
+    /// Whether a child of this level can have it: a step refuses any other by 5.
+    pub fn is_legal_for(self, child: &Block) -> bool {
+        let (result, area, points) = (self.0 >> 6, self.0 & 0x20 != 0, self.0 & 0x1F != 0);
+        let known = result < 3;
+        if child.level() < 0 {
+            known && (!points || result == 1 && area)
+        } else {
+            known && !area && !points
         }
     }
 }

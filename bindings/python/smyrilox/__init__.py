@@ -1,0 +1,61 @@
+"""Proved refinement of implicit graphs, for Python.
+
+A Chart holds what belongs together: the record, the ring with the queued blocks, and a cell for each pixel. Nothing else writes them, and
+calls from several threads wait for each other, so what is promised of the engine (docs/WHITE.md) holds of every chart that was begun here.
+A chart that was loaded is as good as the bytes it came from (bindings/SAVED.md).
+
+    def above_one(block):   # the relation x > 1: no solution up to 1, some in every pixel from 1 on, not known in between
+        low, high = block.x.span
+        return NO if high <= 1 else yes_for(block) if low >= 1 else UNDECIDED
+
+    chart = Chart(Setup(2, 1, X | Y), steps=100)
+    run = chart.refine(above_one, 100)
+    run.ending          # 'done'
+    chart.rows()        # [b'\\x00\\x02']
+
+The library, libsmyrilox.so, is looked for beside this module, then where the environment's SMYRILOX_SO says, then among the repository's
+products, where bindings/build puts it, then where the system's loader looks.
+"""
+
+from ._block import M, N, THETA, T, WHOLE, X, Y, Block, Coordinate, Interval, Setup
+from ._chart import Chart, Counts, Grey, Reading, Run, Step
+from ._leaves import first_cut, later_cut, midpoint, simple_fraction
+from ._refusal import WORDS, NoMemory, Refused
+from ._saved import NotLoaded
+from ._verdict import AREA, NO, UNDECIDED, YES, Verdict, found_at, yes_for
+
+__version__ = "0.1.0"
+__all__ = [
+    "X",
+    "Y",
+    "M",
+    "N",
+    "THETA",
+    "T",
+    "Interval",
+    "WHOLE",
+    "Coordinate",
+    "Block",
+    "Setup",
+    "Verdict",
+    "NO",
+    "UNDECIDED",
+    "YES",
+    "AREA",
+    "found_at",
+    "yes_for",
+    "Chart",
+    "Step",
+    "Run",
+    "Counts",
+    "Reading",
+    "Grey",
+    "WORDS",
+    "Refused",
+    "NoMemory",
+    "NotLoaded",
+    "midpoint",
+    "simple_fraction",
+    "first_cut",
+    "later_cut",
+]
