@@ -20,7 +20,8 @@ def load_build():
 
 
 class Checks:
-    def __init__(self):
+    def __init__(self, build):
+        self.runner = build.runner
         self.passed = 0
         self.failed = 0
         self.start = time.time()
@@ -29,15 +30,20 @@ class Checks:
         self.passed += good
         self.failed += not good
 
+    def tell(self, driver, *words):
+        """What a command of the driver does."""
+        command = [*self.runner(driver), str(driver), *map(str, words)]
+        return subprocess.run(command, text=True, capture_output=True)
+
     def run(self, driver, *words):
         """A command that must find no difference."""
-        done = subprocess.run([str(driver), *map(str, words)], text=True, capture_output=True)
+        done = self.tell(driver, *words)
         print(done.stdout + done.stderr, end="", flush=True)
         self.count(done.returncode == 0)
 
     def must_find(self, name, driver, *words):
         """A command that must find a difference, since a fault was put in."""
-        done = subprocess.run([str(driver), *map(str, words)], text=True, capture_output=True)
+        done = self.tell(driver, *words)
         told = [line for line in done.stdout.splitlines() if " differences (" in line and ", 0 differences (" not in line]
         good = done.returncode == 1 and told != []
         print(f"slip {name}: {'noticed: ' + told[0] if good else 'NOT NOTICED ' + done.stderr}", flush=True)

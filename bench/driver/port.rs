@@ -5,14 +5,16 @@
 pub mod abi;
 #[path = "../../compare/driver/calls.rs"]
 #[allow(dead_code)]
-mod calls;
+pub mod calls;
 
 use calls::*;
 use oracle::oracle::Setup;
 
-fn ranges(setup: &Setup) -> abi::Ranges {
-    let [m, n, theta, t] = setup.parameters.map(|(lower, upper)| abi::Interval { lower, upper });
-    abi::Ranges { m, n, theta, t }
+/// What setup and least ring are handed.
+pub fn asked(setup: &Setup) -> (abi::Chosen, abi::Ranges) {
+    let Setup { width, height, set, reserved: [reserved1, reserved2, reserved3], parameters } = *setup;
+    let [m, n, theta, t] = parameters.map(|(lower, upper)| abi::Interval { lower, upper });
+    (abi::Chosen { width, height, set, reserved1, reserved2, reserved3 }, abi::Ranges { m, n, theta, t })
 }
 
 /// The lent buffers and the record.
@@ -30,15 +32,10 @@ impl Port {
         Port { state: abi::State::default(), ring: vec![0; ring], cells: vec![0; pixels] }
     }
 
-    pub fn least_ring(setup: &Setup) -> abi::Number {
-        unsafe { smyrilox_least_ring(setup.width, setup.height, setup.set, ranges(setup)) }
-    }
-
     pub fn setup(&mut self, setup: &Setup) {
-        let ranges = ranges(setup);
+        let (chosen, ranges) = asked(setup);
         let (ring, ring_len, cells, cells_len) = self.memory();
-        let told =
-            unsafe { smyrilox_setup(setup.width, setup.height, setup.set, ranges, ring, ring_len, cells, cells_len) };
+        let told = unsafe { smyrilox_setup(chosen, ranges, ring, ring_len, cells, cells_len) };
         assert!(told.refusal == 0, "setup refused by {}", told.refusal);
         self.state = told.state;
     }
@@ -76,10 +73,6 @@ impl Port {
     pub fn picture(&self, bytes: &mut [u8]) -> u64 {
         let (cells, count) = (self.cells.as_ptr(), self.cells.len());
         unsafe { smyrilox_picture(self.state, cells, count, bytes.as_mut_ptr(), bytes.len()) }
-    }
-
-    pub fn counts(&self) -> abi::Counted {
-        unsafe { smyrilox_counts(self.state, self.cells.as_ptr(), self.cells.len()) }
     }
 
     /// The queue's bytes in order.

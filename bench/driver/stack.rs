@@ -1,47 +1,321 @@
-//! How much stack each call of the port takes: the room below is filled with a pattern, and looked through afterwards.
+//! How much stack each entry takes at most: over every cut, levels above, at and below a pixel, rings with and without room,
+//! and every refusal that the entry can give.
 
-use crate::{port::Port, work};
+use crate::{
+    port::{abi, asked, calls::*, Port},
+    watch::{taken, watched},
+    worlds::*,
+};
 use oracle::oracle::Setup;
-use std::arch::asm;
+use std::collections::BTreeMap;
 
-const ROOM: usize = 128 * 1024;
-/// What this function's own calls may need between the filling and the call.
-const APART: usize = 512;
-const PATTERN: u8 = 0xa5;
+/// The most of one entry, with the case that took it, and of its refusals by number.
+#[derive(Default)]
+struct Row {
+    most: usize,
+    at: String,
+    refusals: BTreeMap<u64, usize>,
+}
 
-/// The bytes below this function's frame that a call left changed.
-#[inline(never)]
-fn taken(call: &mut dyn FnMut()) -> usize {
-    let here: usize;
-    unsafe { asm!("mov {}, rsp", out(reg) here) };
-    let top = here - APART;
-    for i in 1..=ROOM {
-        unsafe { ((top - i) as *mut u8).write_volatile(PATTERN) };
+/// The rows, in the order of the entries below.
+pub struct Table(Vec<Row>);
+
+/// Each entry with the numbers that it can give. A run gives its own, and stops by those of its steps.
+const ENTRIES: [(&str, &[u64]); 19] = [
+    ("run", &[2, 8]),
+    ("run, by the number that stops it", &[4, 5, 6, 7, 8]),
+    ("step", &[2, 4, 5, 6, 7, 8, 13]),
+    ("setup", &[1, 2, 3, 6]),
+    ("children", &[8, 13]),
+    ("least_ring", &[1, 3]),
+    ("picture", &[2, 8, 12]),
+    ("counts", &[2, 8]),
+    ("cells", &[1]),
+    ("midpoint", &[3]),
+    ("simple_fraction", &[3]),
+    ("subdivision_point", &[3]),
+    ("is_subdivisible", &[3]),
+    ("first_cut", &[3]),
+    ("later_cut", &[3]),
+    ("write_small", &[9]),
+    ("read_small", &[10, 11]),
+    ("pixel_index and is_halvable", &[8]),
+    ("halves", &[8]),
+];
+
+impl Table {
+    /// Watches a call that answers its refusal, and notes what it takes. `due` is the refusal that it must give, if known.
+    pub fn note(&mut self, entry: &str, case: &str, due: Option<u64>, call: &mut dyn FnMut() -> u64) {
+        let (refusal, bytes) = taken(call);
+        assert!(due.unwrap_or(refusal) == refusal, "{entry}, {case}: refused by {refusal}");
+        let place = ENTRIES.iter().position(|&(name, _)| name == entry).expect("an entry");
+        let row = &mut self.0[place];
+        if bytes > row.most {
+            (row.most, row.at) = (bytes, case.to_string());
+        }
+        if refusal > 0 {
+            let most = row.refusals.entry(refusal).or_default();
+            *most = bytes.max(*most);
+        }
     }
-    call();
-    let lowest = (1..=ROOM).rev().find(|&i| unsafe { ((top - i) as *const u8).read_volatile() } != PATTERN);
-    lowest.map_or(0, |i| i + APART)
+
+    fn print(&self) {
+        println!("| call | bytes of stack, at most | where | of its refusals, by number |");
+        println!("|---|---|---|---|");
+        for (&(name, numbers), row) in ENTRIES.iter().zip(&self.0) {
+            assert!(row.refusals.keys().eq(numbers), "{name}: refusals by {:?}", row.refusals.keys());
+            let refusals: Vec<_> = row.refusals.iter().map(|(number, bytes)| format!("{number}: {bytes}")).collect();
+            println!("| {name} | {} | {} | {} |", row.most, row.at, refusals.join(", "));
+        }
+    }
 }
 
 pub fn measure() {
-    let full = |set| Setup { width: 9, height: 9, set, parameters: [(0.0, 9.0), (0.0, 9.0), (0.0, 9.0), (0.0, 9.0)] };
-    let nothing = taken(&mut || ());
-    let row = |name: &str, call: &mut dyn FnMut()| println!("| {name} | {} |", taken(call).saturating_sub(nothing));
-    println!("| call | bytes of stack |");
-    println!("|---|---|");
-    let mut port = Port::made(&full(63), 1 << 16);
-    let mut bytes = vec![0; 81];
-    row("least ring", &mut || assert!(Port::least_ring(&full(63)).refusal == 0));
-    row("setup, all parameters", &mut || port.setup(&full(63)));
-    row("children", &mut || assert!(port.children().refusal == 0));
-    row("step", &mut || {
-        let count = port.children().count;
-        assert!(port.step(&[0x40; 4][..count]).refusal == 0);
+    let mut table = Table(ENTRIES.iter().map(|_| Row::default()).collect());
+    for front in Front::all() {
+        for ring in RINGS {
+            blocks(&mut table, &front, ring);
+        }
+    }
+    for front in Front::all() {
+        damage(&mut table, &front);
+    }
+    setups(&mut table);
+    intervals(&mut table);
+    small_numbers(&mut table);
+    coordinates(&mut table);
+    table.print();
+}
+
+/// With room; with so little that the new blocks are measured; without any; and each across the ring's end.
+const RINGS: [Ring; 6] = [
+    ROOMY,
+    Ring { wraps: true, ..ROOMY },
+    Ring { free: 331, wraps: false },
+    Ring { free: 331, wraps: true },
+    Ring { free: 0, wraps: false },
+    Ring { free: 0, wraps: true },
+];
+
+fn children(table: &mut Table, case: &str, due: Option<u64>, world: &Port) -> abi::Listed {
+    let mut listed = abi::Listed::default();
+    table.note("children", case, due, &mut || {
+        let call = watched(smyrilox_children as unsafe extern "C" fn(_, _, _) -> _);
+        listed = unsafe { call(world.state, world.ring.as_ptr(), world.ring.len()) };
+        listed.refusal
     });
-    row("run of 1000 steps", &mut || {
-        let tape = work::to_the_pixels(64).tape;
-        assert!(port.run(&tape, 1000).steps == 1000);
+    listed
+}
+
+fn step(table: &mut Table, case: &str, due: Option<u64>, world: &Port, verdicts: &[u8]) {
+    table.note("step", case, due, &mut || {
+        let Port { state, mut ring, mut cells } = world.clone();
+        let call = watched(smyrilox_step as unsafe extern "C" fn(_, _, _, _, _, _, _) -> _);
+        let (ring, cells) = (&mut ring[..], &mut cells[..]);
+        let (at, count) = (verdicts.as_ptr(), verdicts.len());
+        let told: abi::Stepped =
+            unsafe { call(state, ring.as_mut_ptr(), ring.len(), cells.as_mut_ptr(), cells.len(), at, count) };
+        told.refusal
     });
-    row("picture", &mut || assert!(port.picture(&mut bytes) == 0));
-    row("counts", &mut || assert!(port.counts().refusal == 0));
+}
+
+fn ran(world: &Port, tape: &[u8], budget: u32) -> abi::Ran {
+    let Port { state, mut ring, mut cells } = world.clone();
+    let call = watched(smyrilox_run as unsafe extern "C" fn(_, _, _, _, _, _, _, _) -> _);
+    let (ring, cells) = (&mut ring[..], &mut cells[..]);
+    let (at, count) = (tape.as_ptr(), tape.len());
+    unsafe { call(state, ring.as_mut_ptr(), ring.len(), cells.as_mut_ptr(), cells.len(), at, count, budget) }
+}
+
+/// A run; of one that is stopped the number is noted in a row of its own.
+fn run(table: &mut Table, case: &str, world: &Port, tape: &[u8], budget: u32) {
+    let mut stop = 0;
+    table.note("run", case, None, &mut || {
+        let told = ran(world, tape, budget);
+        stop = told.stop;
+        told.refusal
+    });
+    if stop != 0 {
+        table.note("run, by the number that stops it", case, Some(stop), &mut || ran(world, tape, budget).stop);
+    }
+}
+
+fn picture(table: &mut Table, case: &str, due: Option<u64>, world: &Port, room: usize) {
+    table.note("picture", case, due, &mut || {
+        let mut bytes = vec![1; room];
+        let call = watched(smyrilox_picture as unsafe extern "C" fn(_, _, _, *mut u8, _) -> _);
+        unsafe { call(world.state, world.cells.as_ptr(), world.cells.len(), bytes.as_mut_ptr(), room) }
+    });
+}
+
+fn counts(table: &mut Table, case: &str, due: Option<u64>, world: &Port) {
+    table.note("counts", case, due, &mut || {
+        let call = watched(smyrilox_counts as unsafe extern "C" fn(_, _, _) -> _);
+        let told: abi::Counted = unsafe { call(world.state, world.cells.as_ptr(), world.cells.len()) };
+        told.refusal
+    });
+}
+
+/// Every verdict on a block, as a step and as a run that goes on; and what a step refuses by 4, 5 and 7.
+fn blocks(table: &mut Table, front: &Front, ring: Ring) {
+    let (case, world) = (front.name(), front.world(ring));
+    let listed = children(table, &case, Some(0), &world);
+    let (count, level) = (listed.count, listed.at[0].x.level);
+    let mut all_true = world.clone();
+    all_true.cells.fill(TRUE);
+    for verdicts in verdicts(count, level) {
+        step(table, &case, None, &world, &verdicts);
+        run(table, &case, &world, &verdicts, 1);
+    }
+    run(table, &case, &world, &[0x40; 24], 6);
+    step(table, &case, None, &all_true, &vec![0x40; count]);
+    run(table, &case, &all_true, &vec![0x40; count], 1);
+    step(table, &case, Some(4), &world, &vec![0x40; count + 1]);
+    run(table, &case, &world, &vec![0x40; count - 1], 1);
+    let illegal: Vec<u8> = (0..count).map(|place| if place + 1 == count { 0xc0 } else { 0x40 }).collect();
+    step(table, &case, Some(5), &world, &illegal);
+    run(table, &case, &world, &illegal, 1);
+    let mut last_number = world.clone();
+    (last_number.state.taken, last_number.state.queued) = (u32::MAX as u64, 1 << 32);
+    last_number.cells.fill(u32::MAX as u64);
+    step(table, &case, None, &last_number, &vec![0x40; count]);
+    run(table, &case, &last_number, &vec![0x40; count], 1);
+    picture(table, &case, Some(0), &world, 15);
+    counts(table, &case, Some(0), &all_true);
+}
+
+/// What is refused by 8, 2, 12 and 13.
+fn damage(table: &mut Table, front: &Front) {
+    let world = front.world(ROOMY);
+    let of = |what: &str| format!("{}, damaged: {what}", front.name());
+    for (what, world) in damaged_records(&world) {
+        children(table, &of(what), Some(8), &world);
+        step(table, &of(what), Some(8), &world, &[0x40]);
+        run(table, &of(what), &world, &[0x40], 1);
+        // The ring's length is not known to these two.
+        let due = if what == "length" { None } else { Some(8) };
+        picture(table, &of(what), due, &world, 15);
+        counts(table, &of(what), due, &world);
+    }
+    for (what, world) in RINGS[..2].iter().flat_map(|&ring| damaged_blocks(front, ring)) {
+        children(table, &of(what), Some(8), &world);
+        step(table, &of(what), Some(8), &world, &[0x40]);
+        run(table, &of(what), &world, &[0x40], 1);
+    }
+    let mut cell = world.clone();
+    cell.cells[10] = 1 << 33;
+    let mut few = world.clone();
+    few.cells.truncate(14);
+    let mut empty = world.clone();
+    (empty.state.queued, empty.state.used) = (empty.state.taken, 0);
+    for (what, world) in [("a cell", &cell), ("cells", &few), ("empty", &empty)] {
+        children(table, &of(what), None, world);
+        step(table, &of(what), None, world, &[0x40]);
+        run(table, &of(what), world, &[0x40; 4], 1);
+        picture(table, &of(what), None, world, 15);
+        counts(table, &of(what), None, world);
+    }
+    picture(table, &of("the picture's bytes"), Some(12), &world, 14);
+}
+
+fn setups(table: &mut Table) {
+    for set in SETS {
+        for range in RANGES.into_iter().chain([(1.0, 0.0)]) {
+            for side in [0, 1, 9, 32] {
+                let case = format!("set {set}, {range:?}, {side} by {side}");
+                let setup = Setup::new(side, side, set, [range; 4]);
+                setup_of(table, &case, &setup, 1 << 13);
+                setup_of(table, &case, &setup, 4);
+            }
+        }
+    }
+    setup_of(table, "set 64", &Setup::new(9, 9, 64, [(0.0, 9.0); 4]), 64);
+    for (width, due) in [(0, 1), (9, 0)] {
+        table.note("cells", "", Some(due), &mut || {
+            let told: abi::Number = unsafe { watched(smyrilox_cells as unsafe extern "C" fn(u32, u32) -> _)(width, 9) };
+            told.refusal
+        });
+    }
+}
+
+fn setup_of(table: &mut Table, case: &str, setup: &Setup, ring: usize) {
+    let (chosen, ranges) = asked(setup);
+    let pixels = setup.width as usize * setup.height as usize;
+    table.note("least_ring", case, None, &mut || {
+        let told: abi::Number =
+            unsafe { watched(smyrilox_least_ring as unsafe extern "C" fn(_, _) -> _)(chosen, ranges) };
+        told.refusal
+    });
+    for cells in [pixels, pixels.saturating_sub(1)] {
+        table.note("setup", case, None, &mut || {
+            let (mut ring, mut cells) = (vec![0; ring], vec![0; cells]);
+            let call = watched(smyrilox_setup as unsafe extern "C" fn(_, _, *mut u8, _, *mut u64, _) -> _);
+            let (ring, cells) = (&mut ring[..], &mut cells[..]);
+            let told: abi::Started =
+                unsafe { call(chosen, ranges, ring.as_mut_ptr(), ring.len(), cells.as_mut_ptr(), cells.len()) };
+            told.refusal
+        });
+    }
+}
+
+type OfInterval<T> = unsafe extern "C" fn(abi::Interval) -> T;
+type OfRange<T> = unsafe extern "C" fn(abi::Interval, bool) -> T;
+
+fn intervals(table: &mut Table) {
+    let odd = [(0.3, 0.4), (-0.0, 5e-324), (-f64::MAX, f64::MAX), (1.0, 0.0), (f64::NAN, 0.0)];
+    for (lower, upper) in RANGES.into_iter().chain(odd) {
+        let (case, x) = (format!("[{lower},{upper}]"), abi::Interval { lower, upper });
+        let mut note = |entry, call: &mut dyn FnMut() -> u64| table.note(entry, &case, None, call);
+        unsafe {
+            note("midpoint", &mut || watched(smyrilox_midpoint as OfInterval<abi::Point>)(x).refusal);
+            note("simple_fraction", &mut || watched(smyrilox_simple_fraction as OfInterval<abi::Point>)(x).refusal);
+            for integer in [false, true] {
+                note("subdivision_point", &mut || {
+                    watched(smyrilox_subdivision_point as OfRange<abi::Point>)(x, integer).refusal
+                });
+                note("is_subdivisible", &mut || {
+                    watched(smyrilox_is_subdivisible as OfRange<abi::Number>)(x, integer).refusal
+                });
+                note("first_cut", &mut || watched(smyrilox_first_cut as OfRange<abi::Pieces>)(x, integer).refusal);
+                note("later_cut", &mut || watched(smyrilox_later_cut as OfRange<abi::Pieces>)(x, integer).refusal);
+            }
+        }
+    }
+}
+
+fn small_numbers(table: &mut Table) {
+    for bits in 0..=57 {
+        let x = 1u64 << bits;
+        table.note("write_small", &format!("2^{bits}"), None, &mut || {
+            let told: abi::Code = unsafe { watched(smyrilox_write_small as unsafe extern "C" fn(_) -> _)(x) };
+            told.refusal
+        });
+    }
+    for head in (0..8).map(|z| 1u8 << z).chain([0]) {
+        for count in 0..=8 {
+            let bytes = vec![head; count];
+            table.note("read_small", &format!("{count} bytes from {head}"), None, &mut || {
+                let call = watched(smyrilox_read_small as unsafe extern "C" fn(_, _) -> _);
+                let told: abi::Read = unsafe { call(bytes.as_ptr(), count) };
+                told.refusal
+            });
+        }
+    }
+}
+
+type OfCoordinate<T> = unsafe extern "C" fn(abi::Coordinate) -> T;
+
+fn coordinates(table: &mut Table) {
+    for level in LEVELS.into_iter().chain([16, -33]) {
+        for index in [0, (1 << 47) - 1, 1 << 47] {
+            let (case, c) = (format!("index {index} at level {level}"), abi::Coordinate { index, level });
+            let mut note = |entry, call: &mut dyn FnMut() -> u64| table.note(entry, &case, None, call);
+            let (pixel, halvable) = ("pixel_index and is_halvable", "pixel_index and is_halvable");
+            unsafe {
+                note(pixel, &mut || watched(smyrilox_pixel_index as OfCoordinate<abi::Number>)(c).refusal);
+                note(halvable, &mut || watched(smyrilox_is_halvable as OfCoordinate<abi::Number>)(c).refusal);
+                note("halves", &mut || watched(smyrilox_halves as OfCoordinate<abi::Halves>)(c).refusal);
+            }
+        }
+    }
 }

@@ -1,11 +1,11 @@
 //! The pictures and the verdicts that both engines are given.
 
-use crate::port::Port;
+use crate::port::{abi, Port};
 use oracle::oracle::Setup;
 
-const LINE: (f64, f64) = (f64::NEG_INFINITY, f64::INFINITY);
-const XY: u8 = 48;
-const UNDECIDED: u8 = 0x40;
+pub const LINE: (f64, f64) = (f64::NEG_INFINITY, f64::INFINITY);
+pub const XY: u8 = 48;
+pub const UNDECIDED: u8 = 0x40;
 
 /// A setup, and a tape for so many steps.
 pub struct Work {
@@ -38,7 +38,7 @@ impl Chance {
 }
 
 pub fn square(side: u32) -> Setup {
-    Setup { width: side, height: side, set: XY, parameters: [LINE; 4] }
+    Setup::new(side, side, XY, [LINE; 4])
 }
 
 /// Every block undecided, until the pixels are queued. The side is a power of two.
@@ -54,15 +54,25 @@ pub fn to_the_pixels(side: u32) -> Work {
     }
 }
 
-/// A tape made by playing: `verdict` is asked with each child's level and place, until it says that it is over.
-fn played(name: String, setup: Setup, ring: usize, mut verdict: impl FnMut(i32, usize) -> Option<u8>) -> Work {
+/// A tape of at most so many steps, made by playing: `verdict` is asked with each child and its place, until it says that it
+/// is over.
+pub fn played(
+    name: String,
+    setup: Setup,
+    ring: usize,
+    most: u64,
+    mut verdict: impl FnMut(&abi::Child, usize) -> Option<u8>,
+) -> Work {
     let mut port = Port::made(&setup, ring);
     let (mut tape, mut steps) = (vec![], 0);
-    while port.state.taken < port.state.queued {
+    while port.state.taken < port.state.queued && steps < most {
         let listed = port.children();
-        let level = listed.at[0].x.level;
-        let verdicts: Option<Vec<u8>> = (0..listed.count).map(|place| verdict(level, place)).collect();
-        let Some(verdicts) = verdicts else { break };
+        let children = listed.at[..listed.count].iter().enumerate();
+        let verdicts: Option<Vec<u8>> = children.map(|(place, child)| verdict(child, place)).collect();
+        let verdicts = match verdicts {
+            Some(verdicts) => verdicts,
+            None => break,
+        };
         let told = port.step(&verdicts);
         assert!(told.refusal == 0, "{name}: step refused by {}", told.refusal);
         tape.extend(verdicts);
@@ -76,14 +86,16 @@ pub fn third_answered(side: u32) -> Work {
     let mut chance = Chance::new(1);
     let name = format!("{side} by {side}, a third of the blocks answered");
     let ring = 16 * side as usize * side as usize;
-    played(name, square(side), ring, |level, _| (level >= 0).then(|| chance.third()))
+    played(name, square(side), ring, u64::MAX, |child, _| (child.x.level >= 0).then(|| chance.third()))
 }
 
 /// Down to the lowest level: from the pixels on one quarter of each block stays undecided.
 pub fn to_the_floor(side: u32) -> Work {
     let name = format!("{side} by {side} down to the floor");
     let ring = 64 * side as usize * side as usize;
-    played(name, square(side), ring, |level, place| Some(if level >= 0 || place == 0 { UNDECIDED } else { 0 }))
+    let open = |child: &abi::Child, place| child.x.level >= 0 || place == 0;
+    let verdict = |child: &abi::Child, place| Some(if open(child, place) { UNDECIDED } else { 0 });
+    played(name, square(side), ring, u64::MAX, verdict)
 }
 
 /// x, y, an integer and a real parameter, a third of the blocks false. What is true of a block is true of all its
@@ -91,13 +103,13 @@ pub fn to_the_floor(side: u32) -> Work {
 pub fn with_parameters(side: u32, steps: u64) -> Work {
     let mut chance = Chance::new(2);
     let mut left = 4 * steps;
-    let setup = Setup { width: side, height: side, set: XY | 8 | 1, parameters: [(0.0, 7.0), LINE, LINE, (-1.0, 1.0)] };
+    let setup = Setup::new(side, side, XY | 8 | 1, [(0.0, 7.0), LINE, LINE, (-1.0, 1.0)]);
     let name = format!("{side} by {side} with m in [0,7] and t in [-1,1]");
-    played(name, setup, 64 << 20, |level, _| {
+    played(name, setup, 64 << 20, u64::MAX, |child, _| {
         left = left.checked_sub(1)?;
         Some(match chance.below(99) {
-            0 if level < 3 => 0x80,
-            0..33 => 0x00,
+            0 if child.x.level < 3 => 0x80,
+            0..=32 => 0x00,
             _ => UNDECIDED,
         })
     })

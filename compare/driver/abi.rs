@@ -5,7 +5,9 @@
 #[path = "../../bindings/rust/src/ffi.rs"]
 mod ffi;
 
-pub use ffi::{Chosen as Picture, Tally as Counts, *};
+pub use ffi::*;
+
+pub type Counts = Tally;
 
 /// A code is its head and so many bytes of the tail, the least significant first.
 #[repr(C)]

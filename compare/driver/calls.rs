@@ -2,18 +2,8 @@
 
 use super::abi;
 pub use super::abi::{
-    smyrilox_cells,
-    smyrilox_least_ring,
-    smyrilox_setup,
-    smyrilox_children,
-    smyrilox_step,
-    smyrilox_run,
-    smyrilox_picture,
-    smyrilox_counts,
-    smyrilox_midpoint,
-    smyrilox_simple_fraction,
-    smyrilox_first_cut,
-    smyrilox_later_cut,
+    smyrilox_cells, smyrilox_children, smyrilox_counts, smyrilox_first_cut, smyrilox_later_cut, smyrilox_least_ring,
+    smyrilox_midpoint, smyrilox_picture, smyrilox_run, smyrilox_setup, smyrilox_simple_fraction, smyrilox_step,
 };
 
 extern "C" {

@@ -24,7 +24,7 @@ impl Maker for DocumentMaker {
     type Engine = Document;
 
     fn setup(&self, setup: &Setup, ring: Vec<u8>, cells: Vec<u64>) -> Result<Document, Refusal> {
-        let Setup { width, height, set, parameters } = *setup;
+        let Setup { width, height, set, parameters, .. } = *setup;
         if [width, height].iter().any(|side| !(1..=32768).contains(side)) {
             return Err(1);
         }
@@ -40,7 +40,8 @@ impl Maker for DocumentMaker {
             return Err(6);
         }
         let (queued, len) = (blocks.len() as u64, ring.len());
-        let record = Record { width, height, set, taken: 0, queued, len, head: 0, used: 0, front: start, back };
+        let (reserved, front) = ([0; 3], start);
+        let record = Record { width, height, set, reserved, taken: 0, queued, len, head: 0, used: 0, front, back };
         let mut made = Document { record, ring, cells };
         made.append(&bytes);
         let pixels = made.pixels();

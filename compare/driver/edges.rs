@@ -8,6 +8,7 @@ use crate::{
     document::DocumentMaker,
     engine::*,
     exact::is_legal,
+    port::{asked, PortMaker},
     random::Random,
     setups::{parameter, random_setup},
 };
@@ -75,14 +76,14 @@ fn sizes(random: &mut Random, edges: &mut Edges) {
     if random.once_in(8) {
         setup.width = random.pick(&[0, 1, 32768, 32769, u32::MAX]);
     }
-    let Setup { width, height, set, parameters } = setup;
+    let Setup { width, height, set, parameters, .. } = setup;
     let sides = [width, height].iter().all(|side| (1..=32768).contains(side));
     let cells = unsafe { smyrilox_cells(width, height) };
     edges.refuses("cells, refusal", cells.refusal, !sides as u64, &setup);
     edges.is("cells", cells.value, if sides { width as u64 * height as u64 } else { 0 }, &setup);
 
-    let [m, n, theta, t] = parameters.map(interval);
-    let told = unsafe { smyrilox_least_ring(width, height, set, abi::Ranges { m, n, theta, t }) };
+    let (chosen, ranges) = asked(&setup);
+    let told = unsafe { smyrilox_least_ring(chosen, ranges) };
     let legal = set < 64 && (0..4).all(|i| !is_used(set, i) || is_legal(parameters[i], i < 3));
     let due = if !sides {
         1
@@ -92,12 +93,12 @@ fn sizes(random: &mut Random, edges: &mut Edges) {
         0
     };
     edges.refuses("least ring, refusal", told.refusal, due, &setup);
-    let small = Setup { width: width.min(9), height: height.min(9), set, parameters };
+    let small = Setup::new(width.min(9), height.min(9), set, parameters);
     let ring = |len| DocumentMaker.setup(&small, vec![0; len], vec![0; 81]).map_or(0, |made| made.record().used as u64);
     let bytes = if due == 0 { ring(6723) } else { 0 };
     edges.is("least ring", told.value, bytes, &setup);
     if due == 0 && width * height < 1000 {
-        let port = |len| crate::port::PortMaker.setup(&setup, vec![0; len], vec![0; 1000]).err().unwrap_or(0) as u64;
+        let port = |len| PortMaker.setup(&setup, vec![0; len], vec![0; 1000]).err().unwrap_or(0) as u64;
         edges.refuses("a setup with the least ring", port(told.value as usize), 0, &setup);
         edges.refuses("a setup with one byte less", port(told.value as usize - 1), 6, &setup);
     }

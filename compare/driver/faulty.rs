@@ -6,7 +6,7 @@ use crate::{
     original::{Original, OriginalMaker},
 };
 
-pub const ASPECTS: [Aspect; 9] = [
+const ASPECTS: [Aspect; 9] = [
     Aspect::Children,
     Aspect::Answer,
     Aspect::Record,
@@ -18,17 +18,39 @@ pub const ASPECTS: [Aspect; 9] = [
     Aspect::Ending,
 ];
 
+/// What is wrong: an aspect, from some step on; or the record keeps the reserved bytes that a setup was handed.
+#[derive(Clone, Copy, Debug)]
+pub enum Fault {
+    Shown { aspect: Aspect, good_steps: u64 },
+    Reserved,
+}
+
+impl Fault {
+    /// Every aspect, from the start and later, and the reserved bytes.
+    pub fn all() -> Vec<Fault> {
+        let shown = |aspect| [0, 1, 7].map(|good_steps| Fault::Shown { aspect, good_steps });
+        ASPECTS.into_iter().flat_map(shown).chain([Fault::Reserved]).collect()
+    }
+
+    /// Where a comparison must see it.
+    pub fn aspect(&self) -> Aspect {
+        match *self {
+            Fault::Shown { aspect, .. } => aspect,
+            Fault::Reserved => Aspect::Record,
+        }
+    }
+}
+
 pub struct FaultyMaker {
     pub maker: OriginalMaker,
-    pub aspect: Aspect,
-    pub good_steps: u64,
+    pub fault: Fault,
 }
 
 #[derive(Clone)]
 pub struct Faulty {
     inner: Original,
-    aspect: Aspect,
-    good_steps: u64,
+    fault: Fault,
+    reserved: [u8; 3],
     ring: Vec<u8>,
     cells: Vec<u64>,
 }
@@ -37,25 +59,25 @@ impl Maker for FaultyMaker {
     type Engine = Faulty;
 
     fn setup(&self, setup: &Setup, ring: Vec<u8>, cells: Vec<u64>) -> Result<Faulty, Refusal> {
-        Ok(self.spoil(self.maker.setup(setup, ring, cells)?))
+        Ok(self.spoil(self.maker.setup(setup, ring, cells)?, setup.reserved))
     }
 
     fn resume(&self, record: &Record, ring: Vec<u8>, cells: Vec<u64>) -> Faulty {
-        self.spoil(self.maker.resume(record, ring, cells))
+        self.spoil(self.maker.resume(record, ring, cells), record.reserved)
     }
 }
 
 impl FaultyMaker {
-    fn spoil(&self, inner: Original) -> Faulty {
-        let mut made = Faulty { inner, aspect: self.aspect, good_steps: self.good_steps, ring: vec![], cells: vec![] };
+    fn spoil(&self, inner: Original, reserved: [u8; 3]) -> Faulty {
+        let mut made = Faulty { inner, fault: self.fault, reserved, ring: vec![], cells: vec![] };
         made.show();
         made
     }
 }
 
 impl Faulty {
-    fn has_fault(&self, aspect: Aspect) -> bool {
-        self.aspect == aspect && self.inner.record().taken >= self.good_steps
+    fn has_fault(&self, of: Aspect) -> bool {
+        matches!(self.fault, Fault::Shown { aspect, good_steps } if aspect == of && self.inner.record().taken >= good_steps)
     }
 
     /// Copies the memory to be shown, and spoils a byte or a cell of it.
@@ -80,6 +102,9 @@ impl Engine for Faulty {
     fn record(&self) -> Record {
         let mut record = self.inner.record();
         record.back.y ^= self.has_fault(Aspect::Record) as u64;
+        if let Fault::Reserved = self.fault {
+            record.reserved = self.reserved;
+        }
         record
     }
 

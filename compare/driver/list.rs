@@ -20,8 +20,10 @@ pub fn hex(bytes: &[u8]) -> String {
 }
 
 pub fn unhex(text: &str) -> Vec<u8> {
-    assert!(text.len() % 2 == 0, "an even number of digits");
-    (0..text.len() / 2).map(|i| u8::from_str_radix(&text[2 * i..2 * i + 2], 16).expect("hexadecimal")).collect()
+    let pairs = text.as_bytes().chunks_exact(2);
+    assert!(pairs.remainder().is_empty(), "an even number of digits");
+    let digits = |pair| std::str::from_utf8(pair).expect("digits");
+    pairs.map(|pair| u8::from_str_radix(digits(pair), 16).expect("hexadecimal")).collect()
 }
 
 fn intervals(of: &[Bounds; 4]) -> String {
@@ -40,12 +42,7 @@ pub fn setup_call(s: &Setup) -> String {
 
 fn read_setup(call: &str) -> Option<Setup> {
     let words: Vec<_> = call.strip_prefix("setup ")?.split(' ').collect();
-    Some(Setup {
-        width: words[0].parse().ok()?,
-        height: words[1].parse().ok()?,
-        set: words[2].parse().ok()?,
-        parameters: read_intervals(words[3]),
-    })
+    Some(Setup::new(words[0].parse().ok()?, words[1].parse().ok()?, words[2].parse().ok()?, read_intervals(words[3])))
 }
 
 pub fn record(r: &Record) -> String {

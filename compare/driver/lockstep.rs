@@ -1,7 +1,7 @@
 //! Two engines side by side: the same calls, and after every call all that they answer and leave is compared.
 
 use crate::engine::*;
-use std::fmt::Debug;
+use std::{collections::BTreeMap, fmt::Debug};
 
 /// What is compared. `Ring` is the whole lent buffer, so also the bytes that must keep their values.
 #[derive(Clone, Copy, Debug, Eq, Hash, Ord, PartialEq, PartialOrd)]
@@ -39,7 +39,7 @@ pub struct Reached {
     pub steps: u64,
     pub children: u64,
     pub evaluations: u64,
-    pub refusals: [u64; 15],
+    pub refusals: BTreeMap<Refusal, u64>,
     pub done: u64,
     pub limit: u64,
     pub given_up: u64,
@@ -51,16 +51,21 @@ impl Reached {
     /// Of a case that ended with its setup.
     pub fn refused(number: Refusal) -> Self {
         let mut reached = Self::default();
-        reached.refusals[number as usize] += 1;
+        reached.refuse(number, 1);
         reached
+    }
+
+    /// So many more refusals by that number.
+    fn refuse(&mut self, number: Refusal, times: u64) {
+        *self.refusals.entry(number).or_default() += times;
     }
 
     pub fn add(&mut self, other: &Reached) {
         self.steps += other.steps;
         self.children += other.children;
         self.evaluations += other.evaluations;
-        for (sum, more) in self.refusals.iter_mut().zip(other.refusals) {
-            *sum += more;
+        for (&number, &times) in &other.refusals {
+            self.refuse(number, times);
         }
         self.done += other.done;
         self.limit += other.limit;
@@ -86,7 +91,9 @@ impl<A: Engine, B: Engine> Pair<A, B> {
         M: Maker<Engine = A>,
         N: Maker<Engine = B>,
     {
-        let calls = vec![format!("{} ring {} cells {}", crate::list::setup_call(setup), room.ring, room.cells)];
+        let call = crate::list::setup_call(setup);
+        let reserved = crate::list::hex(&setup.reserved);
+        let calls = vec![format!("{call} reserved {reserved} ring {} cells {}", room.ring, room.cells)];
         let made = (
             left.setup(setup, vec![FILLER; room.ring], vec![SPARE; room.cells]),
             right.setup(setup, vec![FILLER; room.ring], vec![SPARE; room.cells]),
@@ -108,8 +115,8 @@ impl<A: Engine, B: Engine> Pair<A, B> {
         M: Maker<Engine = A>,
         N: Maker<Engine = B>,
     {
-        let told = crate::list::record(record);
-        let calls = vec![format!("resume {told} ring {} cells {cells:?}", crate::list::hex(ring))];
+        let (told, reserved) = (crate::list::record(record), crate::list::hex(&record.reserved));
+        let calls = vec![format!("resume {told} reserved {reserved} ring {} cells {cells:?}", crate::list::hex(ring))];
         let mut pair = Pair {
             left: left.resume(record, ring.to_vec(), cells.to_vec()),
             right: right.resume(record, ring.to_vec(), cells.to_vec()),
@@ -151,7 +158,7 @@ impl<A: Engine, B: Engine> Pair<A, B> {
             self.reached.steps += ran.steps;
             self.reached.evaluations += ran.evaluations;
             if let RunEnd::Stop(number) = ran.end {
-                self.reached.refusals[number as usize] += 1;
+                self.reached.refuse(number, 1);
             }
         }
         Ok(left)
@@ -160,7 +167,7 @@ impl<A: Engine, B: Engine> Pair<A, B> {
     fn note(&mut self, children: &[Child], answer: &Result<Stepped, Refusal>) {
         let reached = &mut self.reached;
         match answer {
-            Err(number) => reached.refusals[*number as usize] += 1,
+            Err(number) => reached.refuse(*number, 1),
             Ok(done) => {
                 let record = self.left.record();
                 reached.steps += 1;
@@ -188,7 +195,8 @@ impl<A: Engine, B: Engine> Pair<A, B> {
         let (left, right) = (self.left.run(&[], 0), self.right.run(&[], 0));
         self.same(Aspect::Ending, &left, &right)?;
         let (left, right) = (self.left.record(), self.right.record());
-        self.same(Aspect::Record, &crate::list::record(&left), &crate::list::record(&right))?;
+        let told = |r: &Record| (crate::list::record(r), r.reserved);
+        self.same(Aspect::Record, &told(&left), &told(&right))?;
         let queues = (queue_bytes(&left, self.left.ring()), queue_bytes(&right, self.right.ring()));
         self.same_items(Aspect::Queue, &queues.0, &queues.1)?;
         self.same_items(Aspect::Ring, self.left.ring(), self.right.ring())?;

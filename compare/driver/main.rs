@@ -75,8 +75,7 @@ fn report(name: &str, start: Instant, figures: String, differences: &[impl Debug
 
 fn report_series(name: &str, start: Instant, series: &play::Series) -> usize {
     let r = &series.reached;
-    let numbers = (1..15).filter(|&n| r.refusals[n] > 0);
-    let refusals = numbers.map(|n| format!(" {n}:{}", r.refusals[n])).collect::<String>();
+    let refusals = r.refusals.iter().map(|(number, times)| format!(" {number}:{times}")).collect::<String>();
     let figures = format!(
         "{} cases, {} steps, {} children, {} evaluations, refusals{refusals}, ended {} done {} limit, \
          {} pixels given up, lowest level {}, longest queue {}",
@@ -115,20 +114,18 @@ fn edges(start: Instant, seed: u64, count: u64) -> usize {
     report("edges", start, format!("{questions} questions, {refusals} refusals due"), &differences)
 }
 
-/// Every aspect spoiled in turn, which the comparison must notice and name. Answers how often it did not.
+/// Every fault put in in turn, which the comparison must notice and name. Answers how often it did not.
 fn faults(start: Instant, seed: u64) -> usize {
-    let mut missed = vec![];
-    let all = || faulty::ASPECTS.into_iter().flat_map(|aspect| [0, 1, 7].map(|good_steps| (aspect, good_steps)));
-    for (aspect, good_steps) in all() {
-        let wrong = faulty::FaultyMaker { maker: FIRST, aspect, good_steps };
-        let series = play::random_cases(&FIRST, &wrong, seed, 40, 60);
-        let named = series.differences.iter().filter(|d| d.aspect == aspect).count();
+    let (all, mut missed) = (faulty::Fault::all(), vec![]);
+    for &fault in &all {
+        let series = play::random_cases(&FIRST, &faulty::FaultyMaker { maker: FIRST, fault }, seed, 40, 60);
+        let named = series.differences.iter().filter(|d| d.aspect == fault.aspect()).count();
         if named == 0 || named < series.differences.len() {
-            missed.push((aspect, good_steps, named, series.differences));
+            missed.push((fault, named, series.differences));
         }
     }
-    let (all, missed_count) = (all().count(), missed.len());
-    report("faults", start, format!("{all} put in, {} noticed and named", all - missed_count), &missed)
+    let figures = format!("{} put in, {} noticed and named", all.len(), all.len() - missed.len());
+    report("faults", start, figures, &missed)
 }
 
 /// Writes a list that has been made in memory.

@@ -1,5 +1,5 @@
 //! Pictures handed in: sound ones that no setup leads to. Blocks lie anywhere on any level, codes may be longer than
-//! needed, a repeated parameter may be written out, and cells hold anything legal.
+//! needed, a repeated parameter may be written out, and cells hold anything legal, the reserved bytes anything.
 
 use crate::{blocks::*, engine::*, exact::put, lockstep::*, play::*, player::*, random::Random, setups::*};
 use oracle::leaf;
@@ -45,7 +45,8 @@ pub fn picture(random: &mut Random) -> (Record, Vec<u8>, Vec<u64>) {
     }
     let taken = if random.once_in(4) { (1 << 32) - count - random.below(20) } else { random.of_bits(31) };
     let used = bytes.len();
-    let record = Record { width, height, set, taken, queued: taken + count, len, head, used, front, back };
+    let (reserved, queued) = (reserved(random), taken + count);
+    let record = Record { width, height, set, reserved, taken, queued, len, head, used, front, back };
     let cells = (0..width * height + 1).map(|_| cell(random, &record)).collect();
     (record, ring, cells)
 }

@@ -12,6 +12,7 @@ pub struct OriginalMaker(pub Manner);
 
 #[derive(Clone)]
 pub struct Original {
+    /// Its reserved bytes are those of the record.
     setup: Setup,
     oracle: Oracle,
     ring: Vec<u8>,
@@ -28,14 +29,15 @@ impl Maker for OriginalMaker {
         if oracle.byte_count() > ring.len() {
             return Err(6);
         }
-        let mut made = Original { setup: setup.clone(), oracle, ring, head: 0, used: 0, cells };
+        let kept = Setup { reserved: [0; 3], ..setup.clone() };
+        let mut made = Original { setup: kept, oracle, ring, head: 0, used: 0, cells };
         made.follow(0);
         Ok(made)
     }
 
     fn resume(&self, record: &Record, ring: Vec<u8>, cells: Vec<u64>) -> Original {
-        let Record { width, height, set, taken, queued, head, used, front, back, .. } = *record;
-        let setup = Setup { width, height, set, parameters: [(f64::NEG_INFINITY, f64::INFINITY); 4] };
+        let Record { width, height, set, reserved, taken, queued, head, used, front, back, .. } = *record;
+        let setup = Setup { width, height, set, reserved, parameters: [(f64::NEG_INFINITY, f64::INFINITY); 4] };
         let standing = Standing { taken, queued, front, back };
         let oracle = Oracle::resume(&setup, &standing, &queue_bytes(record, &ring), &cells, self.0);
         Original { setup, oracle, ring, head, used, cells }
@@ -105,11 +107,12 @@ impl Original {
 impl Engine for Original {
     fn record(&self) -> Record {
         let Standing { taken, queued, front, back } = self.oracle.standing();
-        let Setup { width, height, set, .. } = self.setup;
+        let Setup { width, height, set, reserved, .. } = self.setup;
         Record {
             width,
             height,
             set,
+            reserved,
             taken,
             queued,
             len: self.ring.len(),

@@ -157,7 +157,7 @@ pub fn exhaustive<M: Maker, N: Maker>(left: &M, right: &N, most_side: u32, depth
         // Where no parameter is used, one row does.
         let rows = if set & 15 == 0 { &rows[..1] } else { &rows[..] };
         for &parameters in rows {
-            series.take(all_tapes(left, right, &Setup { width, height, set, parameters }, depth));
+            series.take(all_tapes(left, right, &Setup::new(width, height, set, parameters), depth));
             if series.is_over() {
                 return series;
             }
@@ -174,7 +174,7 @@ pub fn small_pictures(most_side: u32) -> impl Iterator<Item = (u32, u32, u8)> {
 
 fn all_tapes<M: Maker, N: Maker>(left: &M, right: &N, setup: &Setup, depth: u32) -> Result<Reached, Difference> {
     let room = Room { ring: 6000, cells: cells_for(setup, 1) };
-    let pair = Pair::setup(left, right, setup, room)?.ok().expect("room for every first cut");
+    let pair = Pair::setup(left, right, setup, room)?.expect("room for every first cut");
     let mut reached = Reached::default();
     every_step(&pair, depth, depth == 1, &mut reached)?;
     Ok(reached)

@@ -10,13 +10,18 @@ fn bounds(x: abi::Interval) -> Bounds {
     (x.lower, x.upper)
 }
 
+fn chosen(width: u32, height: u32, set: u8, reserved: [u8; 3]) -> abi::Chosen {
+    let [reserved1, reserved2, reserved3] = reserved;
+    abi::Chosen { width, height, set, reserved1, reserved2, reserved3 }
+}
+
 fn state(r: &Record) -> abi::State {
     let last = |l: &Last| {
         let [m, n, theta, t] = l.parameters.map(interval);
         abi::Last { x: l.x, y: l.y, m, n, theta, t }
     };
     abi::State {
-        picture: abi::Picture { width: r.width, height: r.height, set: r.set },
+        chosen: chosen(r.width, r.height, r.set, r.reserved),
         taken: r.taken,
         queued: r.queued,
         len: r.len,
@@ -27,12 +32,20 @@ fn state(r: &Record) -> abi::State {
     }
 }
 
+/// What setup and least ring are handed.
+pub fn asked(setup: &Setup) -> (abi::Chosen, abi::Ranges) {
+    let [m, n, theta, t] = setup.parameters.map(interval);
+    (chosen(setup.width, setup.height, setup.set, setup.reserved), abi::Ranges { m, n, theta, t })
+}
+
 fn record(s: &abi::State) -> Record {
     let last = |l: &abi::Last| Last { x: l.x, y: l.y, parameters: [l.m, l.n, l.theta, l.t].map(bounds) };
+    let abi::Chosen { width, height, set, reserved1, reserved2, reserved3 } = s.chosen;
     Record {
-        width: s.picture.width,
-        height: s.picture.height,
-        set: s.picture.set,
+        width,
+        height,
+        set,
+        reserved: [reserved1, reserved2, reserved3],
         taken: s.taken,
         queued: s.queued,
         len: s.len,
@@ -65,11 +78,9 @@ impl Maker for PortMaker {
     type Engine = Port;
 
     fn setup(&self, setup: &Setup, mut ring: Vec<u8>, mut cells: Vec<u64>) -> Result<Port, Refusal> {
-        let [m, n, theta, t] = setup.parameters.map(interval);
-        let Setup { width, height, set, .. } = *setup;
+        let (chosen, ranges) = asked(setup);
         let (ring_at, ring_len, cells_at, cells_len) = (ring.as_mut_ptr(), ring.len(), cells.as_mut_ptr(), cells.len());
-        let ranges = abi::Ranges { m, n, theta, t };
-        let made = unsafe { smyrilox_setup(width, height, set, ranges, ring_at, ring_len, cells_at, cells_len) };
+        let made = unsafe { smyrilox_setup(chosen, ranges, ring_at, ring_len, cells_at, cells_len) };
         told(made.refusal, Port { state: made.state, ring, cells })
     }
 

@@ -62,12 +62,12 @@ pub fn record_all<M: Maker>(maker: &M, most_side: u32, out: &mut impl Write) -> 
     let rows = fixed_parameters();
     let mut case = 0;
     for (turn, (width, height, set)) in small_pictures(most_side).enumerate() {
-        let setup = Setup { width, height, set, parameters: rows[(turn + set as usize / 8) % rows.len()] };
+        let setup = Setup::new(width, height, set, rows[(turn + set as usize / 8) % rows.len()]);
         let cells = vec![SPARE; cells_for(&setup, 1)];
-        let first = maker.setup(&setup, vec![FILLER; 6000], cells.clone()).ok().expect("room for every first cut");
+        let first = maker.setup(&setup, vec![FILLER; 6000], cells.clone()).expect("room for every first cut");
         // Just room for a step's four blocks at their longest.
         let ring = vec![FILLER; first.record().used + 3 * 83];
-        let start = maker.setup(&setup, ring, cells).ok().expect("the room of the first try");
+        let start = maker.setup(&setup, ring, cells).expect("the room of the first try");
         for verdicts in all_verdicts(&first.children().expect("a first block"), false) {
             let mut engine = start.clone();
             list::write_line(out, case, &list::setup_call(&setup), &[], Ok(0), &mut engine)?;

@@ -46,7 +46,7 @@ const BROKEN: [f64; 14] = [
     0.5,
     1.5,
     2.5,
-    3.141592653589793,
+    std::f64::consts::PI,
     TWO_52 - 0.5,
 ];
 
@@ -90,16 +90,18 @@ pub fn parameter(random: &mut Random, integer: bool) -> Bounds {
         7 => -a,
         _ => bound(random, integer),
     };
-    match (a.min(b), a.max(b)) {
-        // A narrow interval at the largest number may have left the finite ones.
-        (low, INF) => (low, INF),
-        bounds => bounds,
-    }
+    (a.min(b), a.max(b))
 }
 
 /// Four parameters.
 pub fn parameters(random: &mut Random) -> [Bounds; 4] {
     std::array::from_fn(|i| parameter(random, i < 3))
+}
+
+/// Bytes that nobody looks at: nought, or anything.
+pub fn reserved(random: &mut Random) -> [u8; 3] {
+    let any = random.next().to_le_bytes();
+    random.pick(&[[0; 3], [any[0], any[1], any[2]], [any[0], 0, 0], [0, any[1], 0], [0, 0, any[2]]])
 }
 
 /// A random picture; most are small, a few have a side at the limit.
@@ -112,7 +114,8 @@ pub fn random_setup(random: &mut Random) -> Setup {
         4..=8 => (side(40), side(40)),
         _ => (side(9), side(9)),
     };
-    Setup { width, height, set: random.below(64) as u8, parameters: parameters(random) }
+    let (set, parameters) = (random.below(64) as u8, parameters(random));
+    Setup { width, height, set, reserved: reserved(random), parameters }
 }
 
 /// Parameters for the exhaustive pictures: every kind of cut, each of them at each place in some row.

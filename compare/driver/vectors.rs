@@ -28,7 +28,7 @@ fn read_sheet(bytes: &[u8]) -> Sheet {
         parameters[i] = (f64::from_bits(number(at, 8)), f64::from_bits(number(at + 8, 8)));
         at += 16;
     }
-    let setup = Setup { width: number(0, 2) as u32, height: number(2, 2) as u32, set, parameters };
+    let setup = Setup::new(number(0, 2) as u32, number(2, 2) as u32, set, parameters);
     Sheet { setup, budget: number(5, 4) as u32, tape: bytes[at..].to_vec() }
 }
 
@@ -48,7 +48,7 @@ fn told(maker: &impl Maker, sheet: &Sheet) -> Vec<String> {
         lines.push(format!("# {}", list::hex(&queue_bytes(&record, picture.ring()))).trim_end().to_string());
         let rest = &sheet.tape[sum.tape as usize..];
         // Vectors stop where their tape does.
-        let budget = (rest.len() > 0 && sum.steps < sheet.budget as u64) as u32;
+        let budget = (!rest.is_empty() && sum.steps < sheet.budget as u64) as u32;
         let ran = picture.run(rest, budget).expect("no refused run");
         sum.steps += ran.steps;
         sum.evaluations += ran.evaluations;

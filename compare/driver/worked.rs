@@ -58,7 +58,7 @@ fn cuts(leaves: &impl Leaves, worked: &mut Worked) {
 }
 
 fn five_by_three<M: Maker>(maker: &M, worked: &mut Worked) {
-    let setup = Setup { width: 5, height: 3, set: 48, parameters: [(-INF, INF); 4] };
+    let setup = Setup::new(5, 3, 48, [(-INF, INF); 4]);
     let mut picture = maker.setup(&setup, vec![FILLER; 64], vec![SPARE; 15]).expect("an accepted setup");
     let queue = |picture: &M::Engine| hex(&queue_bytes(&picture.record(), picture.ring()));
     worked.is("5 by 3 starts", queue(&picture), "0103010300".to_string());
@@ -69,7 +69,7 @@ fn five_by_three<M: Maker>(maker: &M, worked: &mut Worked) {
 }
 
 fn one_by_one(maker: &impl Maker, worked: &mut Worked) {
-    let setup = Setup { width: 1, height: 1, set: 48, parameters: [(-INF, INF); 4] };
+    let setup = Setup::new(1, 1, 48, [(-INF, INF); 4]);
     let mut picture = maker.setup(&setup, vec![FILLER; 64], vec![SPARE; 1]).expect("an accepted setup");
     let mut whole = picture.clone();
     let mut tape = [0x40, 0, 0, 0].repeat(31);

@@ -1,6 +1,7 @@
 //! The original behind the C interface: a library to try the comparison's own side of that interface with, and an
 //! example of what every function owes. It keeps nothing between calls; each call takes the picture up from its
-//! record, ring and cells, and refuses by the few rules of `driver/original.rs`.
+//! record, ring and cells, and refuses by the few rules of `driver/original.rs`. What a caller owes is in the header.
+#![allow(clippy::missing_safety_doc)]
 
 #[path = "../driver/abi.rs"]
 mod abi;
@@ -28,9 +29,11 @@ fn bounds(x: abi::Interval) -> Bounds {
 
 fn record(s: &abi::State) -> Record {
     let last = |l: &abi::Last| Last { x: l.x, y: l.y, parameters: [l.m, l.n, l.theta, l.t].map(bounds) };
-    let abi::Picture { width, height, set } = s.picture;
+    let abi::Chosen { width, height, set, reserved1, reserved2, reserved3 } = s.chosen;
+    let reserved = [reserved1, reserved2, reserved3];
+    let abi::State { taken, queued, len, head, used, .. } = *s;
     let (front, back) = (last(&s.front), last(&s.back));
-    Record { width, height, set, taken: s.taken, queued: s.queued, len: s.len, head: s.head, used: s.used, front, back }
+    Record { width, height, set, reserved, taken, queued, len, head, used, front, back }
 }
 
 fn state(r: &Record) -> abi::State {
@@ -38,9 +41,19 @@ fn state(r: &Record) -> abi::State {
         let [m, n, theta, t] = l.parameters.map(interval);
         abi::Last { x: l.x, y: l.y, m, n, theta, t }
     };
-    let picture = abi::Picture { width: r.width, height: r.height, set: r.set };
-    let (front, back) = (last(&r.front), last(&r.back));
-    abi::State { picture, taken: r.taken, queued: r.queued, len: r.len, head: r.head, used: r.used, front, back }
+    let Record {
+        width, height, set, reserved: [reserved1, reserved2, reserved3], taken, queued, len, head, used, ..
+    } = *r;
+    let chosen = abi::Chosen { width, height, set, reserved1, reserved2, reserved3 };
+    abi::State { chosen, taken, queued, len, head, used, front: last(&r.front), back: last(&r.back) }
+}
+
+/// The setup that is asked for.
+fn asked(chosen: &abi::Chosen, ranges: &abi::Ranges) -> Setup {
+    let abi::Ranges { m, n, theta, t } = *ranges;
+    let reserved = [chosen.reserved1, chosen.reserved2, chosen.reserved3];
+    let abi::Chosen { width, height, set, .. } = *chosen;
+    Setup { width, height, set, reserved, parameters: [m, n, theta, t].map(bounds) }
 }
 
 fn taken_up(s: &abi::State, ring: &[u8], cells: &[u64]) -> Original {
@@ -60,17 +73,13 @@ pub extern "C" fn smyrilox_cells(width: u32, height: u32) -> abi::Number {
 }
 
 #[no_mangle]
-pub extern "C" fn smyrilox_least_ring(width: u32, height: u32, set: u8, ranges: abi::Ranges) -> abi::Number {
-    let abi::Ranges { m, n, theta, t } = ranges;
-    let setup = Setup { width, height, set, parameters: [m, n, theta, t].map(bounds) };
-    number(oracle::oracle::Oracle::setup(&setup, Manner::Torn).byte_count() as u64)
+pub extern "C" fn smyrilox_least_ring(chosen: abi::Chosen, ranges: abi::Ranges) -> abi::Number {
+    number(oracle::oracle::Oracle::setup(&asked(&chosen, &ranges), Manner::Torn).byte_count() as u64)
 }
 
 #[no_mangle]
 pub unsafe extern "C" fn smyrilox_setup(
-    width: u32,
-    height: u32,
-    set: u8,
+    chosen: abi::Chosen,
     ranges: abi::Ranges,
     ring: *mut u8,
     ring_len: usize,
@@ -78,9 +87,7 @@ pub unsafe extern "C" fn smyrilox_setup(
     cells_len: usize,
 ) -> abi::Started {
     let (ring, cells) = (from_raw_parts_mut(ring, ring_len), from_raw_parts_mut(cells, cells_len));
-    let abi::Ranges { m, n, theta, t } = ranges;
-    let setup = Setup { width, height, set, parameters: [m, n, theta, t].map(bounds) };
-    match MAKER.setup(&setup, ring.to_vec(), cells.to_vec()) {
+    match MAKER.setup(&asked(&chosen, &ranges), ring.to_vec(), cells.to_vec()) {
         Err(refusal) => abi::Started { refusal: refusal as u64, ..Default::default() },
         Ok(engine) => abi::Started { refusal: 0, state: left(&engine, ring, cells) },
     }
@@ -88,7 +95,7 @@ pub unsafe extern "C" fn smyrilox_setup(
 
 #[no_mangle]
 pub unsafe extern "C" fn smyrilox_children(state: abi::State, ring: *const u8, ring_len: usize) -> abi::Listed {
-    let cells = vec![0; state.picture.width as usize * state.picture.height as usize];
+    let cells = vec![0; state.chosen.width as usize * state.chosen.height as usize];
     let engine = taken_up(&state, from_raw_parts(ring, ring_len), &cells);
     let mut listed = abi::Listed::default();
     match engine.children() {
