@@ -1,33 +1,32 @@
-//! Draws the example charts: `dock FOLDER` writes a PNG for each relation there, `dock FOLDER STEPS` what is known after so many steps, and `dock --check`
-//! holds the charts against brute force.
+//! Draws the example charts as text: `dock FOLDER` writes a file for each relation there, `dock FOLDER STEPS` what is known after so many steps, and
+//! `dock --check` holds the charts against brute force.
 
 mod check;
 mod evaluator;
 mod exact;
 mod interval;
-mod paint;
-mod png;
 mod relations;
+mod text;
 
 use relations::{Relation, RELATIONS};
-use smyrilox::{Chart, Refusal};
+use smyrilox::{Chart, Ending, Refusal};
 use std::io::{IsTerminal, Write};
 use std::{env, fs, path::Path, process};
 
 /// Bytes for the queue, and steps at most unless told otherwise.
 const RING: usize = 1 << 20;
-const BUDGET: u64 = 400_000;
+const BUDGET: u32 = 400_000;
 const USAGE: &str = "usage: dock FOLDER [STEPS], or dock --check";
 
 fn main() {
     let words: Vec<String> = env::args().skip(1).collect();
     let done = match &words[..] {
         [word] if word == "--check" => check_all(),
-        [folder] if !folder.starts_with('-') => draw_all(Path::new(folder), BUDGET),
+        [folder] if !folder.starts_with('-') => draw_all(Path::new(folder), BUDGET, ""),
         [folder, steps] => steps
             .parse()
             .map_err(|_| USAGE.to_string())
-            .and_then(|n| draw_all(Path::new(folder), n)),
+            .and_then(|n| draw_all(Path::new(folder), n, &format!("-{n}-steps"))),
         _ => Err(USAGE.to_string()),
     };
     if let Err(message) = done {
@@ -36,69 +35,63 @@ fn main() {
     }
 }
 
-/// Steps until nothing is queued or the budget is spent.
-fn refine(relation: &Relation, budget: u64) -> Result<Chart, Refusal> {
+/// So many steps, or fewer if nothing is left to do: the chart, and the evaluations that it cost.
+fn refine(relation: &Relation, steps: u32) -> Result<(Chart, u64), Refusal> {
     let mut chart = Chart::new(&relation.setup(), RING)?;
-    while !chart.is_finished() && chart.steps() < budget {
-        chart.step_with(|block| evaluator::verdict(relation, block))?;
-        if chart.steps() % 5000 == 0 {
-            progress(relation, &chart)?;
-        }
-    }
+    let run = chart.refine_watched(
+        |block| evaluator::verdict(relation, block),
+        steps,
+        |chart, finished| {
+            if finished % 5000 == 0 {
+                show_progress(relation, chart, finished, steps);
+            }
+        },
+    )?;
     if std::io::stderr().is_terminal() {
         eprint!("\r\x1b[K");
     }
-    Ok(chart)
+    match run.ending {
+        Ending::Stop(why) => Err(why),
+        _ => Ok((chart, run.evaluations)),
+    }
 }
 
-/// A line that is written over, where somebody looks.
-fn progress(relation: &Relation, chart: &Chart) -> Result<(), Refusal> {
+/// A bar that is written over, where somebody looks.
+fn show_progress(relation: &Relation, chart: &Chart, finished: u32, steps: u32) {
     if std::io::stderr().is_terminal() {
-        let counts = chart.counts()?;
+        let full = (u64::from(finished) * 30 / u64::from(steps)) as usize;
         eprint!(
-            "\r\x1b[K{}: {} steps, {} queued, {} thousandths settled",
+            "\r\x1b[K{:<12} [{}{}] {finished} of {steps} steps, {} blocks queued",
             relation.name,
-            chart.steps(),
-            counts.queued,
-            counts.share
+            "#".repeat(full),
+            ".".repeat(30 - full),
+            chart.queued()
         );
         let _ = std::io::stderr().flush();
     }
-    Ok(())
 }
 
-fn draw_all(folder: &Path, budget: u64) -> Result<(), String> {
+fn draw_all(folder: &Path, budget: u32, suffix: &str) -> Result<(), String> {
     fs::create_dir_all(folder).map_err(|e| format!("{}: {e}", folder.display()))?;
     for relation in &RELATIONS {
-        let chart = refine(relation, budget).map_err(|why| format!("{}: {why}", relation.name))?;
-        let picture = chart.picture().map_err(|why| why.to_string())?;
-        let file = folder.join(format!("{}.png", relation.name));
-        fs::write(&file, paint::paint(&picture).to_png())
-            .map_err(|e| format!("{}: {e}", file.display()))?;
+        let text = refine(relation, budget)
+            .and_then(|(chart, evaluations)| text::text(relation, &chart, evaluations))
+            .map_err(|why| format!("{}: {why}", relation.name))?;
+        let file = folder.join(format!("{}{suffix}.txt", relation.name));
+        fs::write(&file, &text).map_err(|e| format!("{}: {e}", file.display()))?;
         println!("{}: {}", file.display(), relation.title);
-        println!("  {}", counts_line(&chart)?);
+        for line in text.lines().skip(3).take(2) {
+            println!("  {line}");
+        }
     }
     Ok(())
-}
-
-fn counts_line(chart: &Chart) -> Result<String, String> {
-    let c = chart.counts().map_err(|why| why.to_string())?;
-    Ok(format!(
-        "{} steps; true {} false {} uncertain {} givenup {} queued {} share {}",
-        chart.steps(),
-        c.yes,
-        c.no,
-        c.uncertain,
-        c.given_up,
-        c.queued,
-        c.share
-    ))
 }
 
 fn check_all() -> Result<(), String> {
     let mut wrong = 0;
     for relation in &RELATIONS {
-        let chart = refine(relation, BUDGET).map_err(|why| format!("{}: {why}", relation.name))?;
+        let (chart, _) =
+            refine(relation, BUDGET).map_err(|why| format!("{}: {why}", relation.name))?;
         let picture = chart.picture().map_err(|why| why.to_string())?;
         let tried = check::against_grid(relation, &picture);
         println!(
