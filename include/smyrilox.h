@@ -25,7 +25,7 @@
  * Refusals. Every answer has a refusal: 0, or one of the numbers below. A refused call has written nothing, and a step, a run or a move
  * that is refused hands back the record that it was given. Where several apply, the one that its function lists first is given.
  *
- * Zero is not a safe filler. A zeroed verdict says "no", a zeroed picture is all white, and zeroed cells read white once a block was taken:
+ * Zero is not a safe filler. A zeroed verdict says no, a zeroed picture is all white, and zeroed cells read white once a block was taken:
  * fill verdicts with SMYRILOX_UNDECIDED and pictures with SMYRILOX_UNCERTAIN before use, or look at every answer's refusal.
  */
 #ifndef SMYRILOX_H
@@ -73,7 +73,7 @@ enum {
  *     SMYRILOX_UNDECIDED     always right
  *     SMYRILOX_YES           each pixel that the child covers holds a solution; below level 0 this counts as undecided
  * Below level 0, where a child is a part of one pixel, also:
- *     SMYRILOX_AREA          added to one of these: points of the child may be sampled. A "yes" is SMYRILOX_YES | SMYRILOX_AREA there
+ *     SMYRILOX_AREA          added to one of these: points of the child may be sampled. A yes is SMYRILOX_YES | SMYRILOX_AREA there
  *     SMYRILOX_AT_..         added to SMYRILOX_UNDECIDED | SMYRILOX_AREA: a solution was found at this point of the child
  * Every other byte is refused by 5. SMYRILOX_NO is 0: a verdict that nobody has written, in zeroed memory, says no, and its pixels turn
  * white. The bytes of a picture (SMYRILOX_FALSE and so on) are no verdicts. */
@@ -148,7 +148,9 @@ typedef struct {
 } smyrilox_chosen;
 
 /* The record. A caller hands it on as it came; `taken` is also the number of steps finished, `queued - taken` the blocks waiting,
- * and `used` the bytes of the ring that hold them. */
+ * and `used` the bytes of the ring that hold them. Bytes 12 to 15, behind `chosen`, are padding and belong to no field: nothing looks at
+ * them, and what they hold in an answer is not said. So compare two records by their fields, and write these bytes 0 in one that is
+ * stored raw. */
 typedef struct {
     smyrilox_chosen chosen;
     uint64_t taken;
@@ -312,7 +314,7 @@ smyrilox_moved smyrilox_move_queue(smyrilox_state state, const uint8_t *ring, si
 uint64_t smyrilox_picture(smyrilox_state state, const uint64_t *cells, size_t cells_len, uint8_t *picture, size_t picture_len);
 
 /* The counts of the picture as it is.
- * Refused by 8 for the record, 2, 8 for a cell; then all counts are 0, `uncertain` too, which is not "finished": look at the refusal.
+ * Refused by 8 for the record, 2, 8 for a cell; then all counts are 0, `uncertain` too, which does not mean that all is decided: look at the refusal.
  * Writes nothing. */
 smyrilox_counted smyrilox_counts(smyrilox_state state, const uint64_t *cells, size_t cells_len);
 
@@ -354,7 +356,8 @@ smyrilox_halved smyrilox_halves(smyrilox_coordinate c);
  * level outside the ranges; then the value is 0. */
 smyrilox_number smyrilox_is_halvable(smyrilox_coordinate c);
 
-/* THE LAYOUT: where each field lies, in bytes, as the library has it. A compiler that is told to lay records out otherwise stops here. */
+/* THE LAYOUT: where each field lies, in bytes, as the library has it; bytes that no field holds are padding. A compiler that is told to
+ * lay records out otherwise stops here. */
 
 /* A number made of the sizes and places below, which libsmyrilox (not libcapi.a) was built with: a program that loads a library at run
  * time compares it with the number of its own records before it hands one over. bindings/c/layout.c says how it is made. */

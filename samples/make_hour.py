@@ -11,17 +11,17 @@ with a crew of 9 to 11 nobody measured it: there it is anything from 0.7 to 1.3,
 ends while that patch is still grey.
 
 The evaluator below works on intervals rounded outwards. Which blocks it is asked about is decided by the engine, played
-by crates/sheets/model.py.
+by crates/replay_sheets/model.py.
 """
 import math
 import os
-import struct
 import sys
 
 HERE = os.path.dirname(os.path.abspath(__file__))
 sys.dont_write_bytecode = True
-sys.path.insert(0, os.path.join(HERE, "..", "crates", "sheets"))
+sys.path += [os.path.join(HERE, "..", "crates"), os.path.join(HERE, "..", "crates", "replay_sheets")]
 import model  # noqa: E402
+from lists import bits, of_bits, sheet  # noqa: E402
 
 WIDTH, HEIGHT, BUDGET = 48, 32, 700
 ARRIVALS, CREW = 480.0 / WIDTH, 16.0 / HEIGHT  # of a pixel
@@ -60,14 +60,14 @@ def surplus(a, c):
 
 def simple_fraction(a, b):
     """A number between two positive ones with few bits: those that both share, and one more."""
-    x, y = (struct.unpack(">Q", struct.pack(">d", v))[0] for v in (a, b))
+    x, y = bits(a), bits(b)
     if x == y:
         return a
     keep = 64 - (x ^ y).bit_length() + 1
-    return struct.unpack(">d", struct.pack(">Q", y >> (64 - keep) << (64 - keep)))[0]
+    return of_bits(y >> (64 - keep) << (64 - keep))
 
 
-def verdict(engine, child):
+def verdict(child):
     side = 2.0 ** child["k"]
     x, y = child["x"] * side, child["y"] * side
     right, top = min(x + side, WIDTH), min(y + side, HEIGHT)
@@ -82,8 +82,7 @@ def verdict(engine, child):
         return 0x40
     middle = (simple_fraction(*a), simple_fraction(*c))
     points = [middle] + [(p, q) for q in c for p in a]
-    bits = [surplus((p, p), (q, q))[0] >= 0 for p, q in points]
-    return 0x60 | sum(16 >> i for i, bit in enumerate(bits) if bit)
+    return 0x60 | sum(16 >> i for i, (p, q) in enumerate(points) if surplus((p, p), (q, q))[0] >= 0)
 
 
 def main():
@@ -92,13 +91,13 @@ def main():
     for _ in range(BUDGET):
         if not e.queue:
             break
-        vs = bytes(verdict(e, c) for c in e.children(e.queue[0][0]))
+        vs = bytes(verdict(c) for c in e.children(e.queue[0][0]))
         e.step(vs, 0)
         tape += vs
-    sheet = struct.pack(">HHBI", WIDTH, HEIGHT, 48 << 2, BUDGET) + tape
-    open(os.path.join(HERE, "hour.sheet"), "wb").write(sheet)
-    print(model.expected(sheet), end="")
-    print(len(sheet), "bytes", file=sys.stderr)
+    hour = sheet(WIDTH, HEIGHT, 48, BUDGET, tape=tape)
+    open(os.path.join(HERE, "hour.sheet"), "wb").write(hour)
+    print(model.expected(hour), end="")
+    print(len(hour), "bytes", file=sys.stderr)
 
 
 if __name__ == "__main__":

@@ -35,9 +35,9 @@ impl Port {
     pub fn setup(&mut self, setup: &Setup) {
         let (chosen, ranges) = asked(setup);
         let (ring, ring_len, cells, cells_len) = self.memory();
-        let told = unsafe { smyrilox_setup(chosen, ranges, ring, ring_len, cells, cells_len) };
-        assert!(told.refusal == 0, "setup refused by {}", told.refusal);
-        self.state = told.state;
+        let answer = unsafe { smyrilox_setup(chosen, ranges, ring, ring_len, cells, cells_len) };
+        assert!(answer.refusal == 0, "setup refused by {}", answer.refusal);
+        self.state = answer.state;
     }
 
     pub fn made(setup: &Setup, ring: usize) -> Port {
@@ -57,17 +57,17 @@ impl Port {
     pub fn step(&mut self, verdicts: &[u8]) -> abi::Stepped {
         let (ring, ring_len, cells, cells_len) = self.memory();
         let (at, count) = (verdicts.as_ptr(), verdicts.len());
-        let told = unsafe { smyrilox_step(self.state, ring, ring_len, cells, cells_len, at, count) };
-        self.state = told.state;
-        told
+        let answer = unsafe { smyrilox_step(self.state, ring, ring_len, cells, cells_len, at, count) };
+        self.state = answer.state;
+        answer
     }
 
     pub fn run(&mut self, tape: &[u8], steps: u64) -> abi::Ran {
         let (ring, ring_len, cells, cells_len) = self.memory();
         let (at, count) = (tape.as_ptr(), tape.len());
-        let told = unsafe { smyrilox_run(self.state, ring, ring_len, cells, cells_len, at, count, steps as u32) };
-        self.state = told.state;
-        told
+        let answer = unsafe { smyrilox_run(self.state, ring, ring_len, cells, cells_len, at, count, steps as u32) };
+        self.state = answer.state;
+        answer
     }
 
     pub fn picture(&self, bytes: &mut [u8]) -> u64 {

@@ -113,9 +113,9 @@ fn step(table: &mut Table, case: &str, due: Option<u64>, world: &Port, verdicts:
         let call = watched(smyrilox_step as unsafe extern "C" fn(_, _, _, _, _, _, _) -> _);
         let (ring, cells) = (&mut ring[..], &mut cells[..]);
         let (at, count) = (verdicts.as_ptr(), verdicts.len());
-        let told: abi::Stepped =
+        let answer: abi::Stepped =
             unsafe { call(state, ring.as_mut_ptr(), ring.len(), cells.as_mut_ptr(), cells.len(), at, count) };
-        told.refusal
+        answer.refusal
     });
 }
 
@@ -131,9 +131,9 @@ fn ran(world: &Port, tape: &[u8], budget: u32) -> abi::Ran {
 fn run(table: &mut Table, case: &str, world: &Port, tape: &[u8], budget: u32) {
     let mut stop = 0;
     table.note("run", case, None, &mut || {
-        let told = ran(world, tape, budget);
-        stop = told.stop;
-        told.refusal
+        let answer = ran(world, tape, budget);
+        stop = answer.stop;
+        answer.refusal
     });
     if stop != 0 {
         table.note("run, by the number that stops it", case, Some(stop), &mut || ran(world, tape, budget).stop);
@@ -151,8 +151,8 @@ fn picture(table: &mut Table, case: &str, due: Option<u64>, world: &Port, room: 
 fn counts(table: &mut Table, case: &str, due: Option<u64>, world: &Port) {
     table.note("counts", case, due, &mut || {
         let call = watched(smyrilox_counts as unsafe extern "C" fn(_, _, _) -> _);
-        let told: abi::Counted = unsafe { call(world.state, world.cells.as_ptr(), world.cells.len()) };
-        told.refusal
+        let answer: abi::Counted = unsafe { call(world.state, world.cells.as_ptr(), world.cells.len()) };
+        answer.refusal
     });
 }
 
@@ -232,8 +232,8 @@ fn setups(table: &mut Table) {
     setup_of(table, "set 64", &Setup::new(9, 9, 64, [(0.0, 9.0); 4]), 64);
     for (width, due) in [(0, 1), (9, 0)] {
         table.note("cells", "", Some(due), &mut || {
-            let told: abi::Number = unsafe { watched(smyrilox_cells as unsafe extern "C" fn(u32, u32) -> _)(width, 9) };
-            told.refusal
+            let answer: abi::Number = unsafe { watched(smyrilox_cells as unsafe extern "C" fn(u32, u32) -> _)(width, 9) };
+            answer.refusal
         });
     }
 }
@@ -242,18 +242,18 @@ fn setup_of(table: &mut Table, case: &str, setup: &Setup, ring: usize) {
     let (chosen, ranges) = asked(setup);
     let pixels = setup.width as usize * setup.height as usize;
     table.note("least_ring", case, None, &mut || {
-        let told: abi::Number =
+        let answer: abi::Number =
             unsafe { watched(smyrilox_least_ring as unsafe extern "C" fn(_, _) -> _)(chosen, ranges) };
-        told.refusal
+        answer.refusal
     });
     for cells in [pixels, pixels.saturating_sub(1)] {
         table.note("setup", case, None, &mut || {
             let (mut ring, mut cells) = (vec![0; ring], vec![0; cells]);
             let call = watched(smyrilox_setup as unsafe extern "C" fn(_, _, *mut u8, _, *mut u64, _) -> _);
             let (ring, cells) = (&mut ring[..], &mut cells[..]);
-            let told: abi::Started =
+            let answer: abi::Started =
                 unsafe { call(chosen, ranges, ring.as_mut_ptr(), ring.len(), cells.as_mut_ptr(), cells.len()) };
-            told.refusal
+            answer.refusal
         });
     }
 }
@@ -287,8 +287,8 @@ fn small_numbers(table: &mut Table) {
     for bits in 0..=57 {
         let x = 1u64 << bits;
         table.note("write_small", &format!("2^{bits}"), None, &mut || {
-            let told: abi::Code = unsafe { watched(smyrilox_write_small as unsafe extern "C" fn(_) -> _)(x) };
-            told.refusal
+            let answer: abi::Code = unsafe { watched(smyrilox_write_small as unsafe extern "C" fn(_) -> _)(x) };
+            answer.refusal
         });
     }
     for head in (0..8).map(|z| 1u8 << z).chain([0]) {
@@ -296,8 +296,8 @@ fn small_numbers(table: &mut Table) {
             let bytes = vec![head; count];
             table.note("read_small", &format!("{count} bytes from {head}"), None, &mut || {
                 let call = watched(smyrilox_read_small as unsafe extern "C" fn(_, _) -> _);
-                let told: abi::Read = unsafe { call(bytes.as_ptr(), count) };
-                told.refusal
+                let answer: abi::Read = unsafe { call(bytes.as_ptr(), count) };
+                answer.refusal
             });
         }
     }
@@ -314,7 +314,7 @@ fn coordinates(table: &mut Table) {
             unsafe {
                 note(pixel, &mut || watched(smyrilox_pixel_index as OfCoordinate<abi::Number>)(c).refusal);
                 note(halvable, &mut || watched(smyrilox_is_halvable as OfCoordinate<abi::Number>)(c).refusal);
-                note("halves", &mut || watched(smyrilox_halves as OfCoordinate<abi::Halves>)(c).refusal);
+                note("halves", &mut || watched(smyrilox_halves as OfCoordinate<abi::Halved>)(c).refusal);
             }
         }
     }

@@ -76,18 +76,18 @@ pub fn watched<F: Copy>(entry: F) -> F {
 }
 
 /// The most bytes that a call takes, by two patterns: what it leaves may look like one of them. The call answers what its
-/// entry told.
+/// entry answered.
 pub fn taken<T: PartialEq>(call: &mut dyn FnMut() -> T) -> (T, usize) {
-    let [(told, first), (again, second)] = [0xa5a5_5a5a_3c3c_c3c3, 0x5a5a_a5a5_c3c3_3c3c].map(|pattern| {
-        let told = unsafe {
+    let [(answer, first), (again, second)] = [0xa5a5_5a5a_3c3c_c3c3, 0x5a5a_a5a5_c3c3_3c3c].map(|pattern| {
+        let answer = unsafe {
             WATCH_PATTERN = pattern;
             WATCH_TAKEN = 0;
             call()
         };
-        (told, unsafe { WATCH_TAKEN })
+        (answer, unsafe { WATCH_TAKEN })
     });
-    assert!(told == again, "the same answer twice");
+    assert!(answer == again, "the same answer twice");
     let most = first.max(second);
     assert!(0 < most && most < 8 * ROOM, "a watched call, in a room that is large enough");
-    (told, most)
+    (answer, most)
 }

@@ -73,8 +73,8 @@ pub fn played(
             Some(verdicts) => verdicts,
             None => break,
         };
-        let told = port.step(&verdicts);
-        assert!(told.refusal == 0, "{name}: step refused by {}", told.refusal);
+        let answer = port.step(&verdicts);
+        assert!(answer.refusal == 0, "{name}: step refused by {}", answer.refusal);
         tape.extend(verdicts);
         steps += 1;
     }

@@ -33,7 +33,7 @@ static bool at(smyrilox_coordinate c, uint64_t index, int32_t level) {
 
 /* ---- document 01's values */
 
-/* The sample sheet: two pixels, one step, one True and one False. The picture is filled with "uncertain" first, as every picture should be. */
+/* The sample sheet: two pixels, one step, one True and one False. The picture is filled with Uncertain first, as every picture should be. */
 static void sample(void) {
     uint8_t ring[64], picture[3];
     uint64_t cells[2];

@@ -3,7 +3,8 @@
 
 Each chart is begun by the library's setup, stepped on, stored where its case says, and taken to its end with verdicts drawn from a fixed seed; the tape is the
 verdicts from the stored place on. Then the stored chart is run along the tape in one go, and must come to the same end. A library that refuses n_theta at
-setup cannot make the file again: the file is what is kept. The library is x86-64 code, and so must be the python3 that loads it.
+setup cannot make the file again: the file is what is kept. The library is x86-64 code, and so must be the python3 that loads it. Its records and layout 1
+are declared here on purpose, and not taken from the bindings beside: they are that release's, whatever the bindings' become.
 
     python3 make.py libsmyrilox.so
 """
@@ -78,7 +79,7 @@ class Counted(Structure):
     _fields_ = [("refusal", c_uint64)] + [(n, c_uint64) for n in ("trues", "falses", "uncertain", "givenup", "queued", "share")]
 
 
-def opened(path):
+def loaded(path):
     library = ctypes.CDLL(os.path.abspath(path))
     data, cells = [ctypes.POINTER(c_uint8), c_size_t], [ctypes.POINTER(c_uint64), c_size_t]
     for name, takes, answers in (
@@ -203,33 +204,33 @@ BEGUN = lambda chart: True
 AFTER = lambda n: lambda chart: chart.state.taken >= n
 WRAPPED = lambda n: lambda chart: chart.state.taken >= n and chart.wrapped()
 GIVEN_UP = lambda n: lambda chart: chart.state.taken >= n and chart.given_up()
-NO, OPEN, YES = (6, 3, 1), (1, 6, 1), (1, 3, 6)
+NO, DOUBT, YES = (6, 3, 1), (1, 6, 1), (1, 3, 6)
 DEEP = None  # one child in doubt, the others said no
 
 CASES = (
-    ("theta-alone-done", 2, 1, THETA, (LINE, LINE, (0.0, 6.0), LINE), 40, 0, BEGUN, 4, OPEN),
+    ("theta-alone-done", 2, 1, THETA, (LINE, LINE, (0.0, 6.0), LINE), 40, 0, BEGUN, 4, DOUBT),
     ("theta-alone-limit", 1, 1, THETA, (LINE, LINE, (5.0, 5.0), LINE), 0, 0, BEGUN, 9, DEEP),
-    ("theta-alone-whole-line", 3, 2, THETA, (LINE, LINE, LINE, LINE), 60, 2, AFTER(3), 30, OPEN),
-    ("theta-from-two", 4, 3, X | Y | THETA, (LINE, LINE, (2.0, INF), LINE), 90, 0, BEGUN, 12, OPEN),
-    ("theta-up-to-minus-one", 3, 3, X | Y | THETA, (LINE, LINE, (-INF, -1.0), LINE), 90, 0, AFTER(5), 14, OPEN),
-    ("theta-zero", 5, 3, X | Y | THETA, (LINE, LINE, (-0.0, 0.0), LINE), 60, 1, AFTER(4), 20, OPEN),
+    ("theta-alone-whole-line", 3, 2, THETA, (LINE, LINE, LINE, LINE), 60, 2, AFTER(3), 30, DOUBT),
+    ("theta-from-two", 4, 3, X | Y | THETA, (LINE, LINE, (2.0, INF), LINE), 90, 0, BEGUN, 12, DOUBT),
+    ("theta-up-to-minus-one", 3, 3, X | Y | THETA, (LINE, LINE, (-INF, -1.0), LINE), 90, 0, AFTER(5), 14, DOUBT),
+    ("theta-zero", 5, 3, X | Y | THETA, (LINE, LINE, (-0.0, 0.0), LINE), 60, 1, AFTER(4), 20, DOUBT),
     ("theta-one-pixel-limit", 1, 1, X | Y | THETA, (LINE, LINE, (1.0, 1.0), LINE), 30, 0, AFTER(20), 60, DEEP),
     ("theta-mixed-limit", 3, 2, X | Y | THETA, (LINE, LINE, (7.0, 7.0), LINE), 18, 0, WRAPPED(25), 60, DEEP),
     ("theta-given-up-limit", 2, 1, X | Y | THETA, (LINE, LINE, (0.0, 3.0), LINE), 60, 0, GIVEN_UP(30), 200, DEEP),
-    ("theta-wrapped", 7, 5, X | Y | THETA, (LINE, LINE, (0.0, 9.0), LINE), 21, 0, WRAPPED(3), 16, OPEN),
+    ("theta-wrapped", 7, 5, X | Y | THETA, (LINE, LINE, (0.0, 9.0), LINE), 21, 0, WRAPPED(3), 16, DOUBT),
     ("theta-wrapped-tight", 2, 2, X | Y | THETA, (LINE, LINE, (-4.0, 4.0), LINE), 4, 3, WRAPPED(2), 30, (2, 6, 1)),
-    ("x-theta", 6, 1, X | THETA, (LINE, LINE, (-7.0, 2.0), LINE), 70, 0, AFTER(2), 12, OPEN),
-    ("y-theta-wrapped", 1, 6, Y | THETA, (LINE, LINE, (0.0, 2.0), LINE), 17, 0, WRAPPED(4), 15, OPEN),
+    ("x-theta", 6, 1, X | THETA, (LINE, LINE, (-7.0, 2.0), LINE), 70, 0, AFTER(2), 12, DOUBT),
+    ("y-theta-wrapped", 1, 6, Y | THETA, (LINE, LINE, (0.0, 2.0), LINE), 17, 0, WRAPPED(4), 15, DOUBT),
     ("m-theta", 3, 1, M | THETA, ((0.0, 4.0), LINE, (0.0, INF), LINE), 80, 0, AFTER(3), 14, (2, 6, 1)),
     ("n-theta-limit", 2, 2, N | THETA, (LINE, (1.0, 2.0), (3.0, 5.0), LINE), 60, 0, AFTER(2), 40, (1, 5, 0)),
-    ("theta-t", 2, 2, THETA | T, (LINE, LINE, (0.0, 1.0), (0.25, 0.75)), 75, 0, BEGUN, 10, OPEN),
-    ("theta-t-mid-way", 3, 3, X | Y | THETA | T, (LINE, LINE, (0.0, 5.0), (-1.5, INF)), 120, 0, AFTER(6), 18, OPEN),
+    ("theta-t", 2, 2, THETA | T, (LINE, LINE, (0.0, 1.0), (0.25, 0.75)), 75, 0, BEGUN, 10, DOUBT),
+    ("theta-t-mid-way", 3, 3, X | Y | THETA | T, (LINE, LINE, (0.0, 5.0), (-1.5, INF)), 120, 0, AFTER(6), 18, DOUBT),
     ("theta-t-repeats", 2, 3, X | Y | THETA | T, (LINE, LINE, (0.0, 5.0), (0.5, 0.5)), 33, 0, WRAPPED(5), 20, (2, 6, 1)),
-    ("m-theta-mid-way", 4, 4, X | Y | M | THETA, ((-INF, 0.0), LINE, (0.0, 12.0), LINE), 100, 0, AFTER(9), 20, OPEN),
-    ("n-theta-wrapped", 5, 4, X | Y | N | THETA, (LINE, (-3.0, 3.0), (-3.0, 3.0), LINE), 25, 0, WRAPPED(7), 22, OPEN),
+    ("m-theta-mid-way", 4, 4, X | Y | M | THETA, ((-INF, 0.0), LINE, (0.0, 12.0), LINE), 100, 0, AFTER(9), 20, DOUBT),
+    ("n-theta-wrapped", 5, 4, X | Y | N | THETA, (LINE, (-3.0, 3.0), (-3.0, 3.0), LINE), 25, 0, WRAPPED(7), 22, DOUBT),
     ("m-n-theta", 3, 2, X | Y | M | N | THETA, ((0.0, 1.0), (0.0, 2.0), (0.0, 3.0), LINE), 110, 4, BEGUN, 8, NO),
     ("all-of-them-begun", 2, 2, 63, ((0.0, 1.0), LINE, (5.0, 6.0), (0.0, 1.0)), 140, 0, BEGUN, 6, NO),
-    ("all-of-them-mid-way", 3, 3, 63, ((5.0, 5.0), (-INF, 4.0), (0.0, INF), LINE), 150, 0, AFTER(4), 14, OPEN),
+    ("all-of-them-mid-way", 3, 3, 63, ((5.0, 5.0), (-INF, 4.0), (0.0, INF), LINE), 150, 0, AFTER(4), 14, DOUBT),
     ("all-of-them-wrapped", 2, 1, 63, ((0.0, 2.0), LINE, (-1.0, 1.0), (0.25, INF)), 60, 1, WRAPPED(6), 16, (3, 5, 2)),
     ("parameters-only-limit", 2, 2, M | N | THETA | T, ((1.0, 3.0), (2.0, 2.0), (3.0, 5.0), (0.5, 0.5)), 120, 0, AFTER(3), 60, (4, 4, 1)),
     ("theta-large", 4, 1, X | Y | THETA, (LINE, LINE, (2.0**53, 1.7976931348623157e308), LINE), 64, 0, AFTER(2), 13, (1, 5, 3)),
@@ -321,7 +322,7 @@ def lines(library, name, width, height, s, ranges, extra, spare, when, busy, moo
 
 
 def main():
-    library = opened(sys.argv[1])
+    library = loaded(sys.argv[1])
     here = os.path.dirname(os.path.abspath(__file__))
     text = [line for case in CASES for line in ("", *lines(library, *case))]
     with open(os.path.join(here, "charts.txt"), "w") as out:

@@ -22,17 +22,17 @@ pub struct Edges {
 }
 
 impl Edges {
-    fn is(&mut self, what: &str, told: u64, due: u64, input: &dyn std::fmt::Debug) {
+    fn is(&mut self, what: &str, got: u64, due: u64, input: &dyn std::fmt::Debug) {
         self.questions += 1;
-        if told != due {
-            self.differences.push(format!("{what}: told {told}, due {due}, asked {input:?}"));
+        if got != due {
+            self.differences.push(format!("{what}: got {got}, due {due}, asked {input:?}"));
         }
     }
 
     /// A refusal, or 0.
-    fn refuses(&mut self, what: &str, told: u64, due: u64, input: &dyn std::fmt::Debug) {
+    fn refuses(&mut self, what: &str, got: u64, due: u64, input: &dyn std::fmt::Debug) {
         self.refusals += (due != 0) as u64;
-        self.is(what, told, due, input);
+        self.is(what, got, due, input);
     }
 }
 
@@ -83,7 +83,7 @@ fn sizes(random: &mut Random, edges: &mut Edges) {
     edges.is("cells", cells.value, if sides { width as u64 * height as u64 } else { 0 }, &setup);
 
     let (chosen, ranges) = asked(&setup);
-    let told = unsafe { smyrilox_least_ring(chosen, ranges) };
+    let got = unsafe { smyrilox_least_ring(chosen, ranges) };
     let legal = set < 64 && (0..4).all(|i| !is_used(set, i) || is_legal(parameters[i], i < 3));
     let due = if !sides {
         1
@@ -92,15 +92,15 @@ fn sizes(random: &mut Random, edges: &mut Edges) {
     } else {
         0
     };
-    edges.refuses("least ring, refusal", told.refusal, due, &setup);
+    edges.refuses("least ring, refusal", got.refusal, due, &setup);
     let small = Setup::new(width.min(9), height.min(9), set, parameters);
     let ring = |len| DocumentMaker.setup(&small, vec![0; len], vec![0; 81]).map_or(0, |made| made.record().used as u64);
     let bytes = if due == 0 { ring(6723) } else { 0 };
-    edges.is("least ring", told.value, bytes, &setup);
+    edges.is("least ring", got.value, bytes, &setup);
     if due == 0 && width * height < 1000 {
         let port = |len| PortMaker.setup(&setup, vec![0; len], vec![0; 1000]).err().unwrap_or(0) as u64;
-        edges.refuses("a setup with the least ring", port(told.value as usize), 0, &setup);
-        edges.refuses("a setup with one byte less", port(told.value as usize - 1), 6, &setup);
+        edges.refuses("a setup with the least ring", port(got.value as usize), 0, &setup);
+        edges.refuses("a setup with one byte less", port(got.value as usize - 1), 6, &setup);
     }
 }
 
@@ -121,8 +121,8 @@ fn intervals(random: &mut Random, edges: &mut Edges) {
 
 fn small_numbers(random: &mut Random, edges: &mut Edges) {
     let x = random.of_bits(64);
-    let told = unsafe { smyrilox_write_small(x) };
-    edges.refuses("write_small", told.refusal, if x >> 56 > 0 { 9 } else { 0 }, &x);
+    let got = unsafe { smyrilox_write_small(x) };
+    edges.refuses("write_small", got.refusal, if x >> 56 > 0 { 9 } else { 0 }, &x);
     let mut bytes: Vec<u8> = (0..random.below(10)).map(|_| random.next() as u8).collect();
     if let (true, Some(head)) = (random.once_in(2), bytes.first_mut()) {
         *head = random.pick(&[0, 1, 2, 64, 128, 192]);

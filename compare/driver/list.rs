@@ -66,7 +66,7 @@ pub fn record(r: &Record) -> String {
 }
 
 /// The columns from the answer on.
-fn told<E: Engine>(answer: Result<u64, Refusal>, engine: &mut E) -> Vec<String> {
+fn columns_of<E: Engine>(answer: Result<u64, Refusal>, engine: &mut E) -> Vec<String> {
     let (code, evaluations) = answer.map_or_else(|number| (number, 0), |evaluations| (0, evaluations));
     let record_of = engine.record();
     let mut picture = vec![FILLER; record_of.width as usize * record_of.height as usize];
@@ -95,7 +95,7 @@ pub fn write_line<E: Engine>(
     answer: Result<u64, Refusal>,
     engine: &mut E,
 ) -> std::io::Result<()> {
-    writeln!(out, "{case}\t{call}\t{}\t{}", hex(verdicts), told(answer, engine).join("\t"))
+    writeln!(out, "{case}\t{call}\t{}\t{}", hex(verdicts), columns_of(answer, engine).join("\t"))
 }
 
 /// What a replay saw.
@@ -149,13 +149,13 @@ fn rooms(columns: &[&str]) -> (usize, usize) {
 
 /// In what an engine's answer and memory differ from a line.
 fn differs<E: Engine>(columns: &[&str], answer: Result<u64, Refusal>, engine: Option<&mut E>) -> Option<String> {
-    let told = match (engine, answer) {
-        (Some(engine), _) => told(answer, engine),
+    let got = match (engine, answer) {
+        (Some(engine), _) => columns_of(answer, engine),
         (None, Err(number)) => vec![number.to_string()],
         (None, Ok(_)) => unreachable!("an accepted setup has an engine"),
     };
     let names = ["answer", "evaluations", "record", "ring", "cells", "picture", "counts", "ending"];
-    let mut pairs = names.iter().zip(columns[3..].iter().zip(&told));
-    let found = pairs.find(|(_, (listed, told))| **listed != told.as_str());
-    found.map(|(what, (listed, told))| format!("{what}: listed {listed}, told {told}"))
+    let mut pairs = names.iter().zip(columns[3..].iter().zip(&got));
+    let found = pairs.find(|(_, (listed, got))| **listed != got.as_str());
+    found.map(|(what, (listed, got))| format!("{what}: listed {listed}, got {got}"))
 }

@@ -115,8 +115,8 @@ impl<A: Engine, B: Engine> Pair<A, B> {
         M: Maker<Engine = A>,
         N: Maker<Engine = B>,
     {
-        let (told, reserved) = (crate::list::record(record), crate::list::hex(&record.reserved));
-        let calls = vec![format!("resume {told} reserved {reserved} ring {} cells {cells:?}", crate::list::hex(ring))];
+        let (got, reserved) = (crate::list::record(record), crate::list::hex(&record.reserved));
+        let calls = vec![format!("resume {got} reserved {reserved} ring {} cells {cells:?}", crate::list::hex(ring))];
         let mut pair = Pair {
             left: left.resume(record, ring.to_vec(), cells.to_vec()),
             right: right.resume(record, ring.to_vec(), cells.to_vec()),
@@ -195,8 +195,8 @@ impl<A: Engine, B: Engine> Pair<A, B> {
         let (left, right) = (self.left.run(&[], 0), self.right.run(&[], 0));
         self.same(Aspect::Ending, &left, &right)?;
         let (left, right) = (self.left.record(), self.right.record());
-        let told = |r: &Record| (crate::list::record(r), r.reserved);
-        self.same(Aspect::Record, &told(&left), &told(&right))?;
+        let got = |r: &Record| (crate::list::record(r), r.reserved);
+        self.same(Aspect::Record, &got(&left), &got(&right))?;
         let queues = (queue_bytes(&left, self.left.ring()), queue_bytes(&right, self.right.ring()));
         self.same_items(Aspect::Queue, &queues.0, &queues.1)?;
         self.same_items(Aspect::Ring, self.left.ring(), self.right.ring())?;
@@ -209,8 +209,8 @@ impl<A: Engine, B: Engine> Pair<A, B> {
     /// Has both draw the picture into so many bytes.
     pub fn draw(&self, room: usize) -> Result<(), Difference> {
         let (mut left, mut right) = (vec![FILLER; room], vec![FILLER; room]);
-        let told = (self.left.picture(&mut left), self.right.picture(&mut right));
-        self.same(Aspect::Picture, &told.0, &told.1)?;
+        let got = (self.left.picture(&mut left), self.right.picture(&mut right));
+        self.same(Aspect::Picture, &got.0, &got.1)?;
         self.same_items(Aspect::Picture, &left, &right)
     }
 

@@ -55,8 +55,8 @@ impl Original {
             self.used += 1;
         }
         assert!(self.used == self.oracle.byte_count());
-        for (cell, told) in self.cells.iter_mut().zip(self.oracle.cells()) {
-            *cell = told;
+        for (cell, got) in self.cells.iter_mut().zip(self.oracle.cells()) {
+            *cell = got;
         }
     }
 

@@ -57,7 +57,7 @@ fn record(s: &abi::State) -> Record {
 }
 
 /// The answer, or its refusal.
-fn told<T>(refusal: u64, answer: T) -> Result<T, Refusal> {
+fn unless_refused<T>(refusal: u64, answer: T) -> Result<T, Refusal> {
     if refusal == 0 {
         Ok(answer)
     } else {
@@ -81,7 +81,7 @@ impl Maker for PortMaker {
         let (chosen, ranges) = asked(setup);
         let (ring_at, ring_len, cells_at, cells_len) = (ring.as_mut_ptr(), ring.len(), cells.as_mut_ptr(), cells.len());
         let made = unsafe { smyrilox_setup(chosen, ranges, ring_at, ring_len, cells_at, cells_len) };
-        told(made.refusal, Port { state: made.state, ring, cells })
+        unless_refused(made.refusal, Port { state: made.state, ring, cells })
     }
 
     fn resume(&self, record: &Record, ring: Vec<u8>, cells: Vec<u64>) -> Port {
@@ -109,7 +109,7 @@ impl Engine for Port {
             let parameters = [b.m, b.n, b.theta, b.t].map(bounds);
             Child { x: b.x.index, y: b.y.index, level: b.x.level as i8, parameters }
         };
-        told(listed.refusal, listed.at[..listed.count].iter().map(child).collect())
+        unless_refused(listed.refusal, listed.at[..listed.count].iter().map(child).collect())
     }
 
     fn step(&mut self, verdicts: &[u8]) -> Result<Stepped, Refusal> {
@@ -118,7 +118,7 @@ impl Engine for Port {
         let done =
             unsafe { smyrilox_step(self.state, ring, ring_len, cells, cells_len, verdicts.as_ptr(), verdicts.len()) };
         self.state = done.state;
-        told(done.refusal, Stepped { evaluations: done.evaluations, tape: done.tape as u64 })
+        unless_refused(done.refusal, Stepped { evaluations: done.evaluations, tape: done.tape as u64 })
     }
 
     fn run(&mut self, tape: &[u8], budget: u32) -> Result<Ran, Refusal> {
@@ -143,13 +143,13 @@ impl Engine for Port {
     fn picture(&self, bytes: &mut [u8]) -> Result<(), Refusal> {
         let (cells, cells_len) = (self.cells.as_ptr(), self.cells.len());
         let refusal = unsafe { smyrilox_picture(self.state, cells, cells_len, bytes.as_mut_ptr(), bytes.len()) };
-        told(refusal, ())
+        unless_refused(refusal, ())
     }
 
     fn counts(&self) -> Result<Counts, Refusal> {
         let c = unsafe { smyrilox_counts(self.state, self.cells.as_ptr(), self.cells.len()) };
-        let abi::Counts { trues, falses, uncertain, givenup, queued, share } = c.counts;
-        told(c.refusal, Counts { yes: trues, no: falses, uncertain, given_up: givenup, queued, share })
+        let abi::Tally { trues, falses, uncertain, givenup, queued, share } = c.counts;
+        unless_refused(c.refusal, Counts { yes: trues, no: falses, uncertain, given_up: givenup, queued, share })
     }
 }
 
@@ -157,7 +157,7 @@ impl Engine for Port {
 pub struct PortLeaves;
 
 fn answered<T>(refusal: u64, answer: T) -> T {
-    told(refusal, answer).unwrap_or_else(|number| panic!("a leaf refused a legal question by {number}"))
+    unless_refused(refusal, answer).unwrap_or_else(|number| panic!("a leaf refused a legal question by {number}"))
 }
 
 fn pieces(p: abi::Pieces) -> Vec<Bounds> {
@@ -170,23 +170,23 @@ fn coordinate(index: u64, level: i8) -> abi::Coordinate {
 
 impl Leaves for PortLeaves {
     fn midpoint(&self, x: Bounds) -> f64 {
-        let told = unsafe { smyrilox_midpoint(interval(x)) };
-        answered(told.refusal, told.value)
+        let answer = unsafe { smyrilox_midpoint(interval(x)) };
+        answered(answer.refusal, answer.value)
     }
 
     fn simple_fraction(&self, x: Bounds) -> f64 {
-        let told = unsafe { smyrilox_simple_fraction(interval(x)) };
-        answered(told.refusal, told.value)
+        let answer = unsafe { smyrilox_simple_fraction(interval(x)) };
+        answered(answer.refusal, answer.value)
     }
 
     fn subdivision_point(&self, x: Bounds, integer: bool) -> f64 {
-        let told = unsafe { smyrilox_subdivision_point(interval(x), integer) };
-        answered(told.refusal, told.value)
+        let answer = unsafe { smyrilox_subdivision_point(interval(x), integer) };
+        answered(answer.refusal, answer.value)
     }
 
     fn is_subdivisible(&self, x: Bounds, integer: bool) -> bool {
-        let told = unsafe { smyrilox_is_subdivisible(interval(x), integer) };
-        answered(told.refusal, told.value == 1)
+        let answer = unsafe { smyrilox_is_subdivisible(interval(x), integer) };
+        answered(answer.refusal, answer.value == 1)
     }
 
     fn first_cut(&self, x: Bounds, integer: bool) -> Vec<Bounds> {
@@ -198,30 +198,30 @@ impl Leaves for PortLeaves {
     }
 
     fn write_small(&self, x: u64) -> Vec<u8> {
-        let told = unsafe { smyrilox_write_small(x) };
-        let mut code = vec![told.head];
-        code.extend(&told.tail.to_le_bytes()[..told.count]);
-        answered(told.refusal, code)
+        let answer = unsafe { smyrilox_write_small(x) };
+        let mut code = vec![answer.head];
+        code.extend(&answer.tail.to_le_bytes()[..answer.count]);
+        answered(answer.refusal, code)
     }
 
     fn read_small(&self, bytes: &[u8]) -> (u64, usize) {
-        let told = unsafe { smyrilox_read_small(bytes.as_ptr(), bytes.len()) };
-        answered(told.refusal, (told.value, told.count))
+        let answer = unsafe { smyrilox_read_small(bytes.as_ptr(), bytes.len()) };
+        answered(answer.refusal, (answer.value, answer.count))
     }
 
     fn pixel_index(&self, index: u64, level: i8) -> u64 {
-        let told = unsafe { smyrilox_pixel_index(coordinate(index, level)) };
-        answered(told.refusal, told.value)
+        let answer = unsafe { smyrilox_pixel_index(coordinate(index, level)) };
+        answered(answer.refusal, answer.value)
     }
 
     fn halves(&self, index: u64, level: i8) -> ([u64; 2], i8) {
-        let told = unsafe { smyrilox_halves(coordinate(index, level)) };
-        assert!(told.low.level == told.high.level);
-        answered(told.refusal, ([told.low.index, told.high.index], told.low.level as i8))
+        let answer = unsafe { smyrilox_halves(coordinate(index, level)) };
+        assert!(answer.low.level == answer.high.level);
+        answered(answer.refusal, ([answer.low.index, answer.high.index], answer.low.level as i8))
     }
 
     fn is_halvable(&self, level: i8) -> bool {
-        let told = unsafe { smyrilox_is_halvable(coordinate(0, level)) };
-        answered(told.refusal, told.value == 1)
+        let answer = unsafe { smyrilox_is_halvable(coordinate(0, level)) };
+        answered(answer.refusal, answer.value == 1)
     }
 }

@@ -33,7 +33,7 @@ fn read_sheet(bytes: &[u8]) -> Sheet {
 }
 
 /// The lines of a vector that the engine would write.
-fn told(maker: &impl Maker, sheet: &Sheet) -> Vec<String> {
+fn got(maker: &impl Maker, sheet: &Sheet) -> Vec<String> {
     let setup = &sheet.setup;
     let pixels = (setup.width * setup.height) as usize;
     let mut picture = maker.setup(setup, vec![FILLER; 16384], vec![SPARE; pixels]).expect("an accepted setup");
@@ -89,14 +89,14 @@ pub fn replay(maker: &impl Maker, text: &str) -> Vectors {
         let name = lines.remove(0);
         let sheet = lines.iter().position(|line| line.starts_with("sheet ")).expect("a sheet");
         let sheet = read_sheet(&list::unhex(lines.remove(sheet)[6..].trim()));
-        let told = told(maker, &sheet);
+        let got = got(maker, &sheet);
         seen.cases += 1;
-        seen.steps += told.iter().filter(|line| line.starts_with("taken")).count() as u64 - 1;
+        seen.steps += got.iter().filter(|line| line.starts_with("taken")).count() as u64 - 1;
         seen.lines += lines.len() as u64;
-        for i in 0..lines.len().max(told.len()) {
-            let (listed, told) = (lines.get(i).copied(), told.get(i).map(String::as_str));
-            if listed != told {
-                seen.differences.push(format!("{name}: listed {listed:?}, told {told:?}"));
+        for i in 0..lines.len().max(got.len()) {
+            let (listed, got) = (lines.get(i).copied(), got.get(i).map(String::as_str));
+            if listed != got {
+                seen.differences.push(format!("{name}: listed {listed:?}, got {got:?}"));
             }
         }
     }

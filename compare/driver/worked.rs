@@ -14,10 +14,10 @@ pub struct Worked {
 }
 
 impl Worked {
-    fn is<T: Debug + PartialEq>(&mut self, what: &str, told: T, due: T) {
+    fn is<T: Debug + PartialEq>(&mut self, what: &str, got: T, due: T) {
         self.values += 1;
-        if told != due {
-            self.differences.push(format!("{what}: told {told:?}, due {due:?}"));
+        if got != due {
+            self.differences.push(format!("{what}: got {got:?}, due {due:?}"));
         }
     }
 }

@@ -177,7 +177,7 @@ pub unsafe extern "C" fn smyrilox_counts(state: abi::State, cells: *const u64, c
     let bare = abi::State { len: 1, head: 0, used: 0, ..state };
     let engine = taken_up(&bare, &[0], from_raw_parts(cells, cells_len));
     let Counts { yes, no, uncertain, given_up, queued, share } = engine.counts().expect("counts of a sound record");
-    let counts = abi::Counts { trues: yes, falses: no, uncertain, givenup: given_up, queued, share };
+    let counts = abi::Tally { trues: yes, falses: no, uncertain, givenup: given_up, queued, share };
     abi::Counted { refusal: 0, counts }
 }
 
@@ -244,10 +244,10 @@ pub extern "C" fn smyrilox_pixel_index(c: abi::Coordinate) -> abi::Number {
 }
 
 #[no_mangle]
-pub extern "C" fn smyrilox_halves(c: abi::Coordinate) -> abi::Halves {
+pub extern "C" fn smyrilox_halves(c: abi::Coordinate) -> abi::Halved {
     let ([low, high], level) = leaf::halves(c.index, c.level as i8);
     let at = |index| abi::Coordinate { index, level: level as i32 };
-    abi::Halves { refusal: 0, low: at(low), high: at(high) }
+    abi::Halved { refusal: 0, low: at(low), high: at(high) }
 }
 
 #[no_mangle]

@@ -41,7 +41,8 @@ class Block(NamedTuple):
 
 
 class Setup(NamedTuple):
-    """Sides in pixels, the variables that the relation uses, and the ranges of the parameters among them; other ranges are not looked at."""
+    """Sides in pixels, the variables that the relation uses, and the ranges of the parameters among them; other ranges are not looked at.
+    `uses` is the header's `set`."""
 
     width: int
     height: int

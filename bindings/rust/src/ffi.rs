@@ -165,6 +165,32 @@ pub struct Pieces {
     pub at: [Interval; 3],
 }
 
+/// A small number's code: its head, and so many bytes of the tail, the least significant first.
+#[repr(C)]
+#[derive(Clone, Copy, Default)]
+pub struct Code {
+    pub refusal: u64,
+    pub head: u8,
+    pub tail: u64,
+    pub count: usize,
+}
+
+#[repr(C)]
+#[derive(Clone, Copy, Default)]
+pub struct Read {
+    pub refusal: u64,
+    pub value: u64,
+    pub count: usize,
+}
+
+#[repr(C)]
+#[derive(Clone, Copy, Default)]
+pub struct Halved {
+    pub refusal: u64,
+    pub low: Coordinate,
+    pub high: Coordinate,
+}
+
 extern "C" {
     pub fn smyrilox_layout() -> u64;
     pub fn smyrilox_cells(width: u32, height: u32) -> Number;
@@ -203,6 +229,13 @@ extern "C" {
     pub fn smyrilox_counts(state: State, cells: *const u64, cells_len: usize) -> Counted;
     pub fn smyrilox_midpoint(x: Interval) -> Point;
     pub fn smyrilox_simple_fraction(x: Interval) -> Point;
+    pub fn smyrilox_subdivision_point(x: Interval, integer: bool) -> Point;
+    pub fn smyrilox_is_subdivisible(x: Interval, integer: bool) -> Number;
     pub fn smyrilox_first_cut(x: Interval, integer: bool) -> Pieces;
     pub fn smyrilox_later_cut(x: Interval, integer: bool) -> Pieces;
+    pub fn smyrilox_write_small(x: u64) -> Code;
+    pub fn smyrilox_read_small(bytes: *const u8, bytes_len: usize) -> Read;
+    pub fn smyrilox_pixel_index(c: Coordinate) -> Number;
+    pub fn smyrilox_halves(c: Coordinate) -> Halved;
+    pub fn smyrilox_is_halvable(c: Coordinate) -> Number;
 }

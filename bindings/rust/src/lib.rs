@@ -1,7 +1,7 @@
 //! A safe interface to the proved refinement of implicit graphs.
 //!
 //! A [`Chart`] holds what belongs together: the record, the ring with the queued blocks, and a cell for each pixel. Nothing else can
-//! write them while it lives, so what is promised of the engine ("white means no": `docs/WHITE.md`) holds by construction of every chart
+//! write them while it lives, so what is promised of the engine (white means no: `docs/WHITE.md`) holds by construction of every chart
 //! that was begun here; one that was loaded is as good as the bytes it came from. An evaluator is asked about blocks and answers with
 //! [`Verdict`]s:
 //!
@@ -39,6 +39,8 @@
 mod block;
 mod buffers;
 mod chart;
+// all that the header has, also what this crate does not call
+#[allow(dead_code)]
 mod ffi;
 mod layout;
 pub mod leaves;

@@ -27,6 +27,7 @@ impl BitOr for Variables {
 }
 
 /// Sides in pixels, the variables that the relation uses, and the ranges of the parameters among them; other ranges are not looked at.
+/// `uses` is the header's `set`.
 #[derive(Clone, Copy, Debug, PartialEq)]
 pub struct Setup {
     pub width: u32,

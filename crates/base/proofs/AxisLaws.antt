@@ -3,7 +3,8 @@
 use mathlib.Core.Path.{_≡_, refl, sym, ap, _∙_}
 use mathlib.Core.Logic.{inl, inr, _↔_}
 use Prim.Native.Nat.{ℕ, zero, suc, _+_, _-_, _*_, _/_, _^_, _≤_, _<_}
-use native.Mathlib.Nat.{div-one, pow-suc, pow-succ', div-div-eq-div-mul, add-mul-div-right, le-div-iff-mul-le, div-lt-iff-lt-mul, mul-one, mul-assoc, mul-comm, mul-le-mul-right, mul-lt-mul-of-pos-right, lt-of-mul-lt-mul-right}
+use native.Mathlib.Nat.{div-one, pow-suc, pow-succ', div-div-eq-div-mul, add-mul-div-right, le-div-iff-mul-le, div-lt-iff-lt-mul, mul-one, mul-assoc}
+use native.Mathlib.Nat.{mul-comm, mul-le-mul-right, mul-lt-mul-of-pos-right, lt-of-mul-lt-mul-right}
 use native.Mathlib.Decide.{decLe, decLt}
 use native.Mathlib.Omega.{arith}
 use lib.Dec.{T, leb, ltb, leb→le, ltb→lt, le→leb, lt→ltb}

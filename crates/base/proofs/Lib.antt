@@ -2,3 +2,4 @@
 pub mod Test
 pub mod BytesLaws
 pub mod AxisLaws
+pub mod ListLaws

@@ -2,3 +2,4 @@
 pub mod Bytes
 pub mod Event
 pub mod Axis
+pub mod Lists

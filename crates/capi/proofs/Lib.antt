@@ -1,2 +1,2 @@
 -- The laws of what crosses.
-pub mod ToldLaws
+pub mod RecordLaws

@@ -6,43 +6,43 @@ use Prim.Native.Nat.{ℕ, _+_, _-_}
 use lib.Dec.{ltb}
 use lib.IntN.{ℤ, pos, negsuc}
 use Rattle.refusal.specs.declared.Whether.{Whether}
-use Rattle.coordinate.specs.declared.Coordinate.{Coordinate}
+use Rattle.coordinate.specs.declared.Coordinate as Inner
 use Rattle.coordinate.specs.declared.PixelAnswer.{PixelAnswer}
-use Rattle.coordinate.specs.declared.Halved.{Halved}
-use Rattle.interval.specs.declared.Point.{Point}
-use Rattle.interval.specs.declared.Pieces.{Pieces}
-use Rattle.small.specs.declared.Coded.{Coded}
-use Rattle.small.specs.declared.SmallRead.{SmallRead}
+use Rattle.coordinate.specs.declared.HalvesAnswer.{HalvesAnswer}
+use Rattle.interval.specs.declared.PointAnswer.{PointAnswer}
+use Rattle.interval.specs.declared.PiecesAnswer.{PiecesAnswer}
+use Rattle.small.specs.declared.CodeAnswer.{CodeAnswer}
+use Rattle.small.specs.declared.ReadAnswer.{ReadAnswer}
 use Rattle.interval.specs.declared.Interval.{Interval}
 use Rattle.refusal.specs.Number.{whetherNumber, whetherValue}
-use Rattle.coordinate.specs.Answers.{pixelNumber, pixelValue, halvedNumber, halvedLow, halvedHigh}
+use Rattle.coordinate.specs.Answers.{pixelNumber, pixelValue, halvesNumber, halvesLow, halvesHigh}
 use Rattle.interval.specs.Answers.{pointNumber, pointValue, piecesNumber, piecesOf, piecesCount}
-use Rattle.small.specs.Answers.{codedNumber, codedHead, codedTail, codedCount, smallReadNumber, smallReadValue, smallReadCount}
+use Rattle.small.specs.Answers.{codeNumber, codeHead, codeTail, codeCount, readNumber, readValue, readCount}
 use Rattle.queue.specs.Block.{wholeLine}
-use Rattle.capi.specs.declared.plain.Place.{Place}
-use Rattle.capi.specs.declared.plain.NumberTold.{NumberTold}
-use Rattle.capi.specs.declared.plain.PointTold.{PointTold}
-use Rattle.capi.specs.declared.plain.PiecesTold.{PiecesTold}
-use Rattle.capi.specs.declared.plain.CodeTold.{CodeTold}
-use Rattle.capi.specs.declared.plain.ReadTold.{ReadTold}
-use Rattle.capi.specs.declared.plain.HalvesTold.{HalvesTold}
-use Rattle.capi.specs.Engine.{placeOf}
+use Rattle.capi.specs.declared.records.Coordinate.{Coordinate}
+use Rattle.capi.specs.declared.records.Number.{Number}
+use Rattle.capi.specs.declared.records.Point.{Point}
+use Rattle.capi.specs.declared.records.Pieces.{Pieces}
+use Rattle.capi.specs.declared.records.Code.{Code}
+use Rattle.capi.specs.declared.records.Read.{Read}
+use Rattle.capi.specs.declared.records.Halved.{Halved}
+use Rattle.capi.specs.Engine.{coordinateRecord}
 
 -- the rank of a level, which is k + 48 from -48 to 15; for any other level 64, which no legal coordinate has (`negsuc n` is -(n + 1))
 abbrev pub rankOf : ℤ → ℕ
 rankOf (pos k) = cond (ltb k 16) (k + 48) 64
 rankOf (negsuc n) = cond (ltb n 48) (47 - n) 64
 
-abbrev pub rankedAt : Place → Coordinate
-rankedAt c = record { index = c .index; rank = rankOf (c .level) }
+abbrev pub coordinateFrom : Coordinate → Inner.Coordinate
+coordinateFrom c = record { index = c .index; rank = rankOf (c .level) }
 
 -- a point
-abbrev pub pointTold : Point → PointTold
-pointTold a = record { refusal = pointNumber a; value = pointValue a }
+abbrev pub pointRecord : PointAnswer → Point
+pointRecord a = record { refusal = pointNumber a; value = pointValue a }
 
 -- yes or no
-abbrev pub whetherTold : Whether → NumberTold
-whetherTold a = record { refusal = whetherNumber a; value = whetherValue a }
+abbrev pub whetherRecord : Whether → Number
+whetherRecord a = record { refusal = whetherNumber a; value = whetherValue a }
 
 -- one to three pieces; the places behind them hold the whole line
 abbrev pub threePlaces : List Interval → List Interval
@@ -51,24 +51,21 @@ threePlaces (p ∷ []) = p ∷ wholeLine ∷ wholeLine ∷ []
 threePlaces (p ∷ q ∷ []) = p ∷ q ∷ wholeLine ∷ []
 threePlaces (p ∷ q ∷ r ∷ l) = p ∷ q ∷ r ∷ []
 
-abbrev pub piecesTold : Pieces → PiecesTold
-piecesTold a = record { refusal = piecesNumber a; count = piecesCount a; at = threePlaces (piecesOf a) }
+abbrev pub piecesRecord : PiecesAnswer → Pieces
+piecesRecord a = record { refusal = piecesNumber a; count = piecesCount a; at = threePlaces (piecesOf a) }
 
 -- a small number's code
-abbrev pub codeTold : Coded → CodeTold
-codeTold a = record { refusal = codedNumber a; head = codedHead a; tail = codedTail a; count = codedCount a }
+abbrev pub codeRecord : CodeAnswer → Code
+codeRecord a = record { refusal = codeNumber a; head = codeHead a; tail = codeTail a; count = codeCount a }
 
 -- a small number read
-abbrev pub readTold : SmallRead → ReadTold
-readTold a = record { refusal = smallReadNumber a; value = smallReadValue a; count = smallReadCount a }
+abbrev pub readRecord : ReadAnswer → Read
+readRecord a = record { refusal = readNumber a; value = readValue a; count = readCount a }
 
 -- a pixel
-abbrev pub pixelTold : PixelAnswer → NumberTold
-pixelTold a = record { refusal = pixelNumber a; value = pixelValue a }
+abbrev pub pixelRecord : PixelAnswer → Number
+pixelRecord a = record { refusal = pixelNumber a; value = pixelValue a }
 
 -- two halves
-abbrev pub blankPlace : Place
-blankPlace = record { index = 0; level = pos 0 }
-
-abbrev pub halvesTold : Halved → HalvesTold
-halvesTold a = record { refusal = halvedNumber a; low = placeOf (halvedLow a); high = placeOf (halvedHigh a) }
+abbrev pub halvesRecord : HalvesAnswer → Halved
+halvesRecord a = record { refusal = halvesNumber a; low = coordinateRecord (halvesLow a); high = coordinateRecord (halvesHigh a) }

@@ -1,3 +1,4 @@
 -- The definitions that the contracts cite.
 pub mod Engine
 pub mod Leaf
+pub mod LeafComputed

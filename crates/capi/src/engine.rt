@@ -6,42 +6,43 @@ ghost use Rattle.decide.specs.Damage.{legalSide};
 ghost use Rattle.implicit.specs.Listing.{childrenListed};
 ghost use Rattle.implicit.specs.Room.{enoughRing};
 ghost use Rattle.implicit.specs.Run.{runOf, runAnswer, worldRun};
-ghost use Rattle.implicit.specs.Setup.{startedAnswer, ringBegun, cellsBegun, cleared, leastRing};
+ghost use Rattle.implicit.specs.Setup.{setupAnswer, ringBegun, cellsBegun, cleared, leastRing};
 ghost use Rattle.implicit.specs.Step.{worldOf, stepOf, stepAnswer, worldAfter};
-ghost use Rattle.implicit.specs.View.{pictureAnswer, pictureLeft, ifDrawn, countsAnswer};
-ghost use Rattle.implicit.specs.Answers.{drawnNumber};
-ghost use Rattle.capi.specs.Engine.{setupTold, childrenTold, stepTold, runTold, countsTold, cellsTold, neededTold, MoveToldAs};
-use crate::plain::ChildrenTold;
-use crate::plain::CountsTold;
-use crate::plain::MoveTold;
-use crate::plain::NumberTold;
-use crate::plain::RunTold;
-use crate::plain::SetupTold;
-use crate::plain::StepTold;
-use crate::told::tell_children;
-use crate::told::tell_counts;
-use crate::told::tell_drawn;
-use crate::told::tell_move;
-use crate::told::tell_needed;
-use crate::told::tell_run;
-use crate::told::tell_setup;
-use crate::told::tell_step;
+ghost use Rattle.implicit.specs.View.{pictureAnswer, pictureLeft, ifDone, countsAnswer};
+ghost use Rattle.implicit.specs.Answers.{callNumber};
+ghost use Rattle.capi.specs.Engine.{setupRecord, childrenRecord, stepRecord, runRecord, countsRecord, cellsRecord, neededRecord, MovesAcross};
+use crate::engine_records::call_number;
+use crate::engine_records::children_record;
+use crate::engine_records::counts_record;
+use crate::engine_records::move_record;
+use crate::engine_records::needed_record;
+use crate::engine_records::run_record;
+use crate::engine_records::setup_record;
+use crate::engine_records::step_record;
+use crate::records::Counted;
+use crate::records::Listed;
+use crate::records::Moved;
+use crate::records::Number;
+use crate::records::Ran;
+use crate::records::Started;
+use crate::records::Stepped;
 use decide::Chosen;
-use implicit::state::Ranges;
-use implicit::state::State;
+use decide::is_legal_side;
+use implicit::Ranges;
+use implicit::State;
 
 // How many cells a picture of these sides takes.
 #[no_mangle]
-pub extern "C" fn smyrilox_cells(width: u32, height: u32) -> NumberTold
-    ensures { λ r. ⌜ r ≡ cellsTold width height ⌝ }
+pub extern "C" fn smyrilox_cells(width: u32, height: u32) -> Number
+    ensures { λ r. ⌜ r ≡ cellsRecord width height ⌝ }
 {
     if are_legal_sides(width, height) {
-        return NumberTold {
+        return Number {
             refusal: 0,
             value: width as u64 * height as u64,
         };
     }
-    NumberTold {
+    Number {
         refusal: 1,
         value: 0,
     }
@@ -51,23 +52,23 @@ pub extern "C" fn smyrilox_cells(width: u32, height: u32) -> NumberTold
 fn are_legal_sides(width: u32, height: u32) -> bool
     ensures { λ r. ⌜ r ≡ (legalSide width && legalSide height) ⌝ }
 {
-    (1 <= width) & (width <= 32768) & ((1 <= height) & (height <= 32768))
+    is_legal_side(width) & is_legal_side(height)
 }
 
 // The shortest ring with which a setup is not refused by 6; what later steps need is not promised.
 #[no_mangle]
-pub extern "C" fn smyrilox_least_ring(chosen: Chosen, ranges: Ranges) -> NumberTold
-    ensures { λ r. ⌜ r ≡ neededTold (leastRing chosen ranges) ⌝ }
+pub extern "C" fn smyrilox_least_ring(chosen: Chosen, ranges: Ranges) -> Number
+    ensures { λ r. ⌜ r ≡ neededRecord (leastRing chosen ranges) ⌝ }
 {
-    tell_needed(implicit::begin::least_ring(chosen, ranges))
+    needed_record(implicit::least_ring(chosen, ranges))
 }
 
 // A ring with which none of the first `steps` steps from the setup is refused by 6.
 #[no_mangle]
-pub extern "C" fn smyrilox_enough_ring(chosen: Chosen, ranges: Ranges, steps: u32) -> NumberTold
-    ensures { λ r. ⌜ r ≡ neededTold (enoughRing chosen ranges steps) ⌝ }
+pub extern "C" fn smyrilox_enough_ring(chosen: Chosen, ranges: Ranges, steps: u32) -> Number
+    ensures { λ r. ⌜ r ≡ neededRecord (enoughRing chosen ranges steps) ⌝ }
 {
-    tell_needed(implicit::room::enough_ring(chosen, ranges, steps))
+    needed_record(implicit::enough_ring(chosen, ranges, steps))
 }
 
 // Begins a picture over a ring and cells.
@@ -77,20 +78,20 @@ pub extern "C" fn smyrilox_setup(
     ranges: Ranges,
     ring: &mut [u8],
     cells: &mut [u64],
-) -> SetupTold
-    ensures { λ r. ⌜ r ≡ setupTold (startedAnswer (cleared chosen) ranges (length (now (ring .entry))) (length (now (cells .entry)))) ⌝ }
+) -> Started
+    ensures { λ r. ⌜ r ≡ setupRecord (setupAnswer (cleared chosen) ranges (length (now (ring .entry))) (length (now (cells .entry)))) ⌝ }
     ensures { λ r. ⌜ now (ring .exit) ≡ ringBegun (cleared chosen) ranges (now (ring .entry)) (now (cells .entry)) ⌝ }
     ensures { λ r. ⌜ now (cells .exit) ≡ cellsBegun (cleared chosen) ranges (now (ring .entry)) (now (cells .entry)) ⌝ }
 {
-    tell_setup(implicit::begin::setup(chosen, ranges, ring, cells))
+    setup_record(implicit::setup(chosen, ranges, ring, cells))
 }
 
 // The children of the front block.
 #[no_mangle]
-pub extern "C" fn smyrilox_children(state: State, ring: &[u8]) -> ChildrenTold
-    ensures { λ r. ⌜ r ≡ childrenTold (childrenListed state (now (ring .entry))) ⌝ }
+pub extern "C" fn smyrilox_children(state: State, ring: &[u8]) -> Listed
+    ensures { λ r. ⌜ r ≡ childrenRecord (childrenListed state (now (ring .entry))) ⌝ }
 {
-    tell_children(implicit::list::children(state, ring))
+    children_record(implicit::children(state, ring))
 }
 
 // One step, with a verdict for each child.
@@ -100,12 +101,12 @@ pub extern "C" fn smyrilox_step(
     ring: &mut [u8],
     cells: &mut [u64],
     verdicts: &[u8],
-) -> StepTold
-    ensures { λ r. ⌜ r ≡ stepTold (stepAnswer state (stepOf (worldOf state (now (ring .entry)) (now (cells .entry))) (now (verdicts .entry)))) ⌝ }
+) -> Stepped
+    ensures { λ r. ⌜ r ≡ stepRecord (stepAnswer state (stepOf (worldOf state (now (ring .entry)) (now (cells .entry))) (now (verdicts .entry)))) ⌝ }
     ensures { λ r. ⌜ now (ring .exit) ≡ worldAfter (worldOf state (now (ring .entry)) (now (cells .entry))) (stepOf (worldOf state (now (ring .entry)) (now (cells .entry))) (now (verdicts .entry))) .ring ⌝ }
     ensures { λ r. ⌜ now (cells .exit) ≡ worldAfter (worldOf state (now (ring .entry)) (now (cells .entry))) (stepOf (worldOf state (now (ring .entry)) (now (cells .entry))) (now (verdicts .entry))) .cells ⌝ }
 {
-    tell_step(implicit::advance::step(state, ring, cells, verdicts))
+    step_record(implicit::step(state, ring, cells, verdicts))
 }
 
 // Steps on a tape of verdicts.
@@ -116,35 +117,35 @@ pub extern "C" fn smyrilox_run(
     cells: &mut [u64],
     tape: &[u8],
     budget: u32,
-) -> RunTold
-    ensures { λ r. ⌜ r ≡ runTold (runAnswer state (runOf budget (worldOf state (now (ring .entry)) (now (cells .entry))) (now (tape .entry)))) ⌝ }
+) -> Ran
+    ensures { λ r. ⌜ r ≡ runRecord (runAnswer state (runOf budget (worldOf state (now (ring .entry)) (now (cells .entry))) (now (tape .entry)))) ⌝ }
     ensures { λ r. ⌜ now (ring .exit) ≡ worldRun (worldOf state (now (ring .entry)) (now (cells .entry))) (runOf budget (worldOf state (now (ring .entry)) (now (cells .entry))) (now (tape .entry))) .ring ⌝ }
     ensures { λ r. ⌜ now (cells .exit) ≡ worldRun (worldOf state (now (ring .entry)) (now (cells .entry))) (runOf budget (worldOf state (now (ring .entry)) (now (cells .entry))) (now (tape .entry))) .cells ⌝ }
 {
-    tell_run(implicit::go::run(state, ring, cells, tape, budget))
+    run_record(implicit::run(state, ring, cells, tape, budget))
 }
 
 // Moves the queue to another ring.
 #[no_mangle]
-pub extern "C" fn smyrilox_move_queue(state: State, ring: &[u8], other: &mut [u8]) -> MoveTold
-    ensures { λ r. ⌜ MoveToldAs state (now (ring .entry)) (now (other .entry)) r (now (other .exit)) ⌝ }
+pub extern "C" fn smyrilox_move_queue(state: State, ring: &[u8], other: &mut [u8]) -> Moved
+    ensures { λ r. ⌜ MovesAcross state (now (ring .entry)) (now (other .entry)) r (now (other .exit)) ⌝ }
 {
-    tell_move(implicit::room::move_queue(state, ring, other))
+    move_record(implicit::move_queue(state, ring, other))
 }
 
 // The picture's bytes; the answer is the refusal, or 0.
 #[no_mangle]
 pub extern "C" fn smyrilox_picture(state: State, cells: &[u64], picture: &mut [u8]) -> u64
-    ensures { λ r. ⌜ r ≡ drawnNumber (pictureAnswer state (now (cells .entry)) (length (now (picture .entry)))) ⌝ }
-    ensures { λ r. ⌜ now (picture .exit) ≡ ifDrawn (pictureAnswer state (now (cells .entry)) (length (now (picture .entry)))) (pictureLeft state (now (cells .entry)) (now (picture .entry))) (now (picture .entry)) ⌝ }
+    ensures { λ r. ⌜ r ≡ callNumber (pictureAnswer state (now (cells .entry)) (length (now (picture .entry)))) ⌝ }
+    ensures { λ r. ⌜ now (picture .exit) ≡ ifDone (pictureAnswer state (now (cells .entry)) (length (now (picture .entry)))) (pictureLeft state (now (cells .entry)) (now (picture .entry))) (now (picture .entry)) ⌝ }
 {
-    tell_drawn(implicit::picture(state, cells, picture))
+    call_number(implicit::picture(state, cells, picture))
 }
 
 // The pixels by reading, and what else is counted.
 #[no_mangle]
-pub extern "C" fn smyrilox_counts(state: State, cells: &[u64]) -> CountsTold
-    ensures { λ r. ⌜ r ≡ countsTold (countsAnswer state (now (cells .entry))) ⌝ }
+pub extern "C" fn smyrilox_counts(state: State, cells: &[u64]) -> Counted
+    ensures { λ r. ⌜ r ≡ countsRecord (countsAnswer state (now (cells .entry))) ⌝ }
 {
-    tell_counts(implicit::counts(state, cells))
+    counts_record(implicit::counts(state, cells))
 }

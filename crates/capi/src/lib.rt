@@ -2,7 +2,7 @@
 // Nothing is decided here. An enum cannot cross, so every answer is a record that begins with its refusal, 0 or document 01's number,
 // and a coordinate crosses with document 01's signed level. include/smyrilox.h says the same to a reader of C.
 pub mod engine;
+mod engine_records;
 pub mod leaf;
-pub mod plain;
-mod told;
-mod told_leaf;
+mod leaf_records;
+pub mod records;

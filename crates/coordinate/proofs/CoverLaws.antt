@@ -7,7 +7,8 @@ use Rattle.base.specs.Axis.{beginsIn, coversAlong}
 use Rattle.base.proofs.Test.{T→≡, ≡→T}
 use Rattle.base.proofs.AxisLaws.{covers-start, covers-apart, half-of, half-begins}
 use Rattle.base.proofs.AxisLaws as Axis
-use Rattle.coordinate.specs.Axis.{pixel, covers1}
+use Rattle.coordinate.specs.Axis.{pixel}
+use Rattle.coordinate.proofs.Covering.{covers1}
 
 -- from the pixel's rank down it covers its own pixel alone
 pub one-pixel : (rank i p : ℕ) → rank ≤ 48 → covers1 rank i p ≡ true → p ≡ pixel rank i

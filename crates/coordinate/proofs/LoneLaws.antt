@@ -13,7 +13,7 @@ use Rattle.refusal.specs.declared.Whether.the-variants as W
 use Rattle.refusal.specs.Number.{answered}
 use Rattle.coordinate.specs.declared.Coordinate.{Coordinate}
 use Rattle.coordinate.specs.declared.PixelAnswer.the-variants as P
-use Rattle.coordinate.specs.declared.Halved.the-variants as H
+use Rattle.coordinate.specs.declared.HalvesAnswer.the-variants as H
 use Rattle.coordinate.specs.Axis.{ordinaryFloor, inRange, pixel, aboveFloor, inside}
 use Rattle.coordinate.specs.Lone.{legal, lowHalf, highHalf, pixelAsked, halvesAsked, subdivisibleAsked, insideAsked}
 use Rattle.coordinate.proofs.PixelLaws.{pixel-big, pixel-small, places-big, inside-pixel, halves-in-range, low-in-range, ranged}

@@ -13,7 +13,8 @@ use Rattle.base.specs.Axis.{beginsIn, coversAlong, placesAlong}
 use Rattle.base.proofs.Test.{cond-yes, cond-no, and-left, and-right, and-both, both-ways}
 use Rattle.base.proofs.AxisLaws.{begins-over, begins-under, counted-begins, places-over, places-under}
 use Rattle.base.proofs.AxisLaws as Axis
-use Rattle.coordinate.specs.Axis.{level, inRange, pixelAtLevel, pixel, places, inside, covers1}
+use Rattle.coordinate.specs.Axis.{level, inRange, pixelAtLevel, pixel, places, inside}
+use Rattle.coordinate.proofs.Covering.{covers1}
 
 -- the definitions are those of base's Axis, where the pixel's level stands as the rank 48: so base's laws are theirs
 pub axis-at-48 : (side rank i p : ℕ)
@@ -39,7 +40,7 @@ pixel-level rank i = elim (decLe 48 rank) [
       pixel-small rank i (omega arith) ∙ ap (λ (n : ℕ). i / 2 ^ n) e ∙ sym (ap (λ z. pixelAtLevel z i) (cond-yes (ltb rank 48) (negsuc (48 - suc rank)) (pos (rank - 48)) (lt-ltb rank 48 (omega arith)))))
 ]
 
--- "beginning inside", by the places and by the pixel: two ways to say the same
+-- beginning inside a side, by the places and by the pixel: two ways to say the same
 pub inside-pixel : (side rank i : ℕ) → inside side rank i ≡ ltb (pixel rank i) side
 unfolding inside places placesAlong pixel beginsIn
 inside-pixel side rank i = counted-begins 48 side rank i

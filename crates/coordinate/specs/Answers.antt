@@ -5,8 +5,8 @@ use Rattle.refusal.specs.Number.{number}
 use Rattle.coordinate.specs.declared.Coordinate.{Coordinate}
 use Rattle.coordinate.specs.declared.PixelAnswer.{PixelAnswer}
 use Rattle.coordinate.specs.declared.PixelAnswer.the-variants as P
-use Rattle.coordinate.specs.declared.Halved.{Halved}
-use Rattle.coordinate.specs.declared.Halved.the-variants as H
+use Rattle.coordinate.specs.declared.HalvesAnswer.{HalvesAnswer}
+use Rattle.coordinate.specs.declared.HalvesAnswer.the-variants as H
 
 -- THE PIXEL: its number, and the pixel
 abbrev pub pixelNumber : PixelAnswer → ℕ
@@ -21,14 +21,14 @@ pixelValue (P.Refused why) = 0
 abbrev pub blankCoordinate : Coordinate
 blankCoordinate = record { index = 0; rank = 48 }
 
-abbrev pub halvedNumber : Halved → ℕ
-halvedNumber (H.Halves low high) = 0
-halvedNumber (H.Refused why) = number why
+abbrev pub halvesNumber : HalvesAnswer → ℕ
+halvesNumber (H.Halves low high) = 0
+halvesNumber (H.Refused why) = number why
 
-abbrev pub halvedLow : Halved → Coordinate
-halvedLow (H.Halves low high) = low
-halvedLow (H.Refused why) = blankCoordinate
+abbrev pub halvesLow : HalvesAnswer → Coordinate
+halvesLow (H.Halves low high) = low
+halvesLow (H.Refused why) = blankCoordinate
 
-abbrev pub halvedHigh : Halved → Coordinate
-halvedHigh (H.Halves low high) = high
-halvedHigh (H.Refused why) = blankCoordinate
+abbrev pub halvesHigh : HalvesAnswer → Coordinate
+halvesHigh (H.Halves low high) = high
+halvesHigh (H.Refused why) = blankCoordinate

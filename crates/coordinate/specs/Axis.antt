@@ -1,7 +1,7 @@
--- One axis of a picture, on plain numbers: document 01, "Small numbers and coordinates", second paragraph, and what a block covers along it.
+-- One axis of a picture, on plain numbers: document 01, "Small numbers and coordinates", second paragraph.
 -- A level k stands as its rank, k + 48, and a floor as the rank of its level. A difference that would be negative is 0, so that one formula
--- serves the levels above and below the pixel's: above, 2 ^ (48 - rank) is 1; below, 2 ^ (rank - 48) is. Pixel, places and what is covered are
--- those of base's Axis with the pixel's level at 48 (proved, `axis-at-48`).
+-- serves the levels above and below the pixel's: above, 2 ^ (48 - rank) is 1; below, 2 ^ (rank - 48) is. Pixel and places are those
+-- of base's Axis with the pixel's level at 48 (proved, `axis-at-48`).
 use mathlib.Core.Bool.{Bool, _&&_}
 use Prim.Native.Nat.{ℕ, suc, _+_, _-_, _*_, _/_, _^_}
 use lib.Dec.{leb, ltb}
@@ -39,7 +39,3 @@ places side rank = (side * 2 ^ 48 + (2 ^ rank - 1)) / 2 ^ rank
 -- does index i begin inside the side?
 unfoldable pub inside : ℕ → ℕ → ℕ → Bool
 inside side rank i = ltb i (places side rank)
-
--- does an index cover pixel p? The 2^k pixels from its own on; from level 0 down that one alone
-unfoldable pub covers1 : ℕ → ℕ → ℕ → Bool
-covers1 rank i p = leb (pixel rank i) p && ltb p (pixel rank i + 2 ^ (rank - 48))

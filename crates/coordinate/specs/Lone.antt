@@ -9,8 +9,8 @@ use Rattle.refusal.specs.Number.{answered}
 use Rattle.coordinate.specs.declared.Coordinate.{Coordinate}
 use Rattle.coordinate.specs.declared.PixelAnswer.{PixelAnswer}
 use Rattle.coordinate.specs.declared.PixelAnswer.the-variants as P
-use Rattle.coordinate.specs.declared.Halved.{Halved}
-use Rattle.coordinate.specs.declared.Halved.the-variants as H
+use Rattle.coordinate.specs.declared.HalvesAnswer.{HalvesAnswer}
+use Rattle.coordinate.specs.declared.HalvesAnswer.the-variants as H
 use Rattle.coordinate.specs.Axis.{inRange, pixel, aboveFloor, inside}
 
 -- index and level are in the ranges
@@ -31,7 +31,7 @@ pixelAsked floor c = cond (legal floor c) (P.At (pixel (c .rank) (c .index))) (P
 
 -- the halves, or 8 where the coordinate or a half of it is outside the ranges: a half is at the floor or above if its coordinate is above it,
 -- and the low one's index is less than the high one's
-unfoldable pub halvesAsked : ℕ → Coordinate → Halved
+unfoldable pub halvesAsked : ℕ → Coordinate → HalvesAnswer
 halvesAsked floor c =
     cond (legal floor c && (aboveFloor floor (c .rank) && legal floor (highHalf c)))
     (H.Halves (lowHalf c) (highHalf c))

@@ -8,7 +8,16 @@ ghost use Rattle.coordinate.specs.Lone.{legal, pixelAsked, halvesAsked, 
 use refusal::Refusal;
 use refusal::Whether;
 
-// The stretch of one axis from i times 2^k to (i + 1) times 2^k, in pixels.
+// The rank of a pixel's level, which is 0.
+pub const PIXEL_RANK: u8 = 48;
+// The rank of the lowest level, which is -32.
+pub const FLOOR_RANK: u8 = 16;
+// Every index is below 2^47.
+pub const INDEX_LIMIT: u64 = 140737488355328;
+// The longest side of a picture, in pixels.
+pub const LONGEST_SIDE: u32 = 32768;
+
+// The part of one axis from i times 2^k to (i + 1) times 2^k, in pixels.
 #[repr(C)]
 pub struct Coordinate {
     pub index: u64,
@@ -23,7 +32,7 @@ pub enum PixelAnswer {
 }
 
 // The two halves of a coordinate.
-pub enum Halved {
+pub enum HalvesAnswer {
     Halves { low: Coordinate, high: Coordinate },
     Refused(Refusal),
 }
@@ -32,7 +41,7 @@ pub enum Halved {
 pub fn is_legal(c: Coordinate) -> bool
     ensures { λ r. ⌜ r ≡ legal ordinaryFloor c ⌝ }
 {
-    (16 <= c.rank) & (c.rank < 64) & (c.index < 140737488355328)
+    (FLOOR_RANK <= c.rank) & (c.rank < 64) & (c.index < INDEX_LIMIT)
 }
 
 // The pixel that the coordinate begins in, uncut.
@@ -43,19 +52,19 @@ pub fn pixel_index(c: Coordinate) -> PixelAnswer
         return PixelAnswer::Refused(Refusal::Damaged);
     }
     let rank = c.rank;
-    if rank < 48 {
-        PixelAnswer::At(c.index >> (48 - rank))
+    if rank < PIXEL_RANK {
+        PixelAnswer::At(c.index >> (PIXEL_RANK - rank))
     } else {
-        PixelAnswer::At(c.index << (rank - 48))
+        PixelAnswer::At(c.index << (rank - PIXEL_RANK))
     }
 }
 
 // The halves, one level down. Refused too where they would leave the ranges.
-pub fn subdivide(c: Coordinate) -> Halved
+pub fn subdivide(c: Coordinate) -> HalvesAnswer
     ensures { λ r. ⌜ r ≡ halvesAsked ordinaryFloor c ⌝ }
 {
     if !is_legal(c) {
-        return Halved::Refused(Refusal::Damaged);
+        return HalvesAnswer::Refused(Refusal::Damaged);
     }
     let index = 2 * c.index;
     let rank = c.rank - 1;
@@ -64,10 +73,10 @@ pub fn subdivide(c: Coordinate) -> Halved
         index: index + 1,
         rank,
     };
-    if (16 < c.rank) & is_legal(high) {
-        Halved::Halves { low, high }
+    if (FLOOR_RANK < c.rank) & is_legal(high) {
+        HalvesAnswer::Halves { low, high }
     } else {
-        Halved::Refused(Refusal::Damaged)
+        HalvesAnswer::Refused(Refusal::Damaged)
     }
 }
 
@@ -78,7 +87,7 @@ pub fn is_subdivisible(c: Coordinate) -> Whether
     if !is_legal(c) {
         return Whether::Refused(Refusal::Damaged);
     }
-    if 16 < c.rank {
+    if FLOOR_RANK < c.rank {
         Whether::Yes
     } else {
         Whether::No
@@ -104,9 +113,9 @@ fn begins_inside(index: u64, rank: u8, side: u64) -> bool
     requires { ⌜ (rank < 64) × (side < 4294967296) ⌝ }
     ensures { λ r. ⌜ r ≡ inside side rank index ⌝ }
 {
-    if rank < 48 {
-        index >> (48 - rank) < side
+    if rank < PIXEL_RANK {
+        index >> (PIXEL_RANK - rank) < side
     } else {
-        index < (side + ((1 << (rank - 48)) - 1)) >> (rank - 48)
+        index < (side + ((1 << (rank - PIXEL_RANK)) - 1)) >> (rank - PIXEL_RANK)
     }
 }

@@ -22,27 +22,32 @@ use Rattle.image.specs.Painting.{someSeen}
 use lib.Ieee.{Float, nan, inf, fin, eq, le, lt}
 use Rattle.interval.specs.declared.Interval.{Interval}
 use Rattle.queue.specs.Block.{wholeLine}
-use Rattle.image.specs.declared.Kind.the-variants as K
+use Rattle.image.specs.declared.CellKind.the-variants as K
 use Rattle.queue.specs.declared.Block.{Block}
 use Rattle.queue.specs.declared.directions.DirectionAt.{DirectionAt}
 use Rattle.queue.specs.declared.directions.DirectionAt.the-variants as A
 use Rattle.queue.specs.declared.directions.Direction.{Direction}
 use Rattle.queue.specs.Directions.{directions}
 use Rattle.decide.specs.declared.Chosen.{Chosen}
-use Rattle.decide.specs.Damage.{legalSide, legalChosen, directionOf, placeRight, cuttable, directionRight, parametersRight, undamaged, damageSeen, sound}
+use Rattle.decide.specs.Damage.{legalSide, legalChosen, directionOf, placeRight, cuttable, directionRight, parametersRight}
+use Rattle.decide.specs.Damage.{undamaged, damageSeen, sound}
 
 -- BY THE TESTS THAT THE CODE MAKES
 
-pub legal-chosen-as : (p : Chosen) (w h : Bool) → w ≡ legalSide (p .width) → h ≡ legalSide (p .height) → (w && h && leb (p .set) 63) ≡ legalChosen p
+pub legal-chosen-as : (p : Chosen) (w h : Bool)
+    → w ≡ legalSide (p .width) → h ≡ legalSide (p .height) → (w && h && leb (p .set) 63) ≡ legalChosen p
 unfolding legalChosen
 legal-chosen-as p w h e f = rw (e, f)
 
-pub undamaged-as : (p : Chosen) (b : Block) (x y d t : Bool) → x ≡ placeRight (p .width) (b .x) → y ≡ placeRight (p .height) (b .y)
-    → d ≡ directionRight p b (directionOf p b) → t ≡ parametersRight b → (eqb (b .x .rank) (b .y .rank) && x && y && d && t) ≡ undamaged p b
+pub undamaged-as : (p : Chosen) (b : Block) (x y d t : Bool)
+    → x ≡ placeRight (p .width) (b .x) → y ≡ placeRight (p .height) (b .y)
+    → d ≡ directionRight p b (directionOf p b) → t ≡ parametersRight b
+    → (eqb (b .x .rank) (b .y .rank) && x && y && d && t) ≡ undamaged p b
 unfolding undamaged
 undamaged-as p b x y d t e f g h = rw (e, f, g, h)
 
-pub damage-as : (p : Chosen) (b : Block) (cells : List ℕ) (r : PixelRange) (s : Seen) → r ≡ rectangleOf (b .x) (b .y) (p .width) (p .height)
+pub damage-as : (p : Chosen) (b : Block) (cells : List ℕ) (r : PixelRange) (s : Seen)
+    → r ≡ rectangleOf (b .x) (b .y) (p .width) (p .height)
     → s ≡ someSeen (p .width) (p .height) r K.Damaged cells → s ≡ damageSeen p b cells
 damage-as p b cells r s e f = f ∙ rw e
 
@@ -54,22 +59,25 @@ isYes (W.Refused r) = false
 
 yes-placed : (side : ℕ) (c : Coordinate) → isYes (insideAsked ordinaryFloor c side) ≡ placeRight side c
 yes-placed side c =
+    let i = inside side (c .rank) (c .index) in
     cases (legal ordinaryFloor c)
-    (λ e. ap isYes (inside-answered ordinaryFloor c side (inside side (c .rank) (c .index)) e refl) ∙ rw e (go (inside side (c .rank) (c .index))))
+    (λ e. ap isYes (inside-answered ordinaryFloor c side i e refl) ∙ rw e (go i))
     (λ e. ap isYes (inside-refused ordinaryFloor c side e) ∙ rw e)
   where
     go : (b : Bool) → isYes (answered b) ≡ b
     go true = refl
     go false = refl
 
-pub placed-as : (side : ℕ) (c : Coordinate) (w v : Whether) → w ≡ insideAsked ordinaryFloor c side → w ≡ v → isYes v ≡ placeRight side c
+pub placed-as : (side : ℕ) (c : Coordinate) (w v : Whether)
+    → w ≡ insideAsked ordinaryFloor c side → w ≡ v → isYes v ≡ placeRight side c
 placed-as side c w v e f = ap isYes (sym f ∙ e) ∙ yes-placed side c
 
-pub directed-along : (p : Chosen) (b : Block) (a : DirectionAt) (d : Direction) (r : Bool) → a ≡ directionOf p b → a ≡ A.Along d → r ≡ cuttable b d
-    → r ≡ directionRight p b (directionOf p b)
+pub directed-along : (p : Chosen) (b : Block) (a : DirectionAt) (d : Direction) (r : Bool)
+    → a ≡ directionOf p b → a ≡ A.Along d → r ≡ cuttable b d → r ≡ directionRight p b (directionOf p b)
 directed-along p b a d r e f g = g ∙ ap (directionRight p b) (sym f ∙ e)
 
-pub directed-beyond : (p : Chosen) (b : Block) (a : DirectionAt) (n : ℕ) → a ≡ directionOf p b → a ≡ A.Beyond → n ≡ length (directions (p .set))
+pub directed-beyond : (p : Chosen) (b : Block) (a : DirectionAt) (n : ℕ)
+    → a ≡ directionOf p b → a ≡ A.Beyond → n ≡ length (directions (p .set))
     → (eqb n 0 && eqb (b .dir) 0) ≡ directionRight p b (directionOf p b)
 directed-beyond p b a n e f g = rw g (ap (directionRight p b) (sym f ∙ e))
 
@@ -108,7 +116,10 @@ pub record Placed (side : ℕ) (c : Coordinate) : Type 0 where
   pub inside-side : inside side (c .rank) (c .index) ≡ true
 
 pub placed : (side : ℕ) (c : Coordinate) → placeRight side c ≡ true → Placed side c
-placed side c e = record { in-ranges = and-left (legal ordinaryFloor c) (inside side (c .rank) (c .index)) e; inside-side = and-right (legal ordinaryFloor c) (inside side (c .rank) (c .index)) e }
+placed side c e =
+    let l = legal ordinaryFloor c in
+    let i = inside side (c .rank) (c .index) in
+    record { in-ranges = and-left l i e; inside-side = and-right l i e }
 
 pub place : (side : ℕ) (c : Coordinate) → Placed side c → placeRight side c ≡ true
 place side c h = and-both (legal ordinaryFloor c) (inside side (c .rank) (c .index)) (h .in-ranges) (h .inside-side)
@@ -154,7 +165,9 @@ is-undamaged p b e =
 pub undamaged-is : (p : Chosen) (b : Block) → Undamaged p b → undamaged p b ≡ true
 unfolding undamaged
 undamaged-is p b u =
-    rw (eq-eqb (b .x .rank) (b .y .rank) (u .ranks), place (p .width) (b .x) (u .x), place (p .height) (b .y) (u .y), u .directed, parameters-legal b (u .parameters))
+    let x = place (p .width) (b .x) (u .x) in
+    let y = place (p .height) (b .y) (u .y) in
+    rw (eq-eqb (b .x .rank) (b .y .rank) (u .ranks), x, y, u .directed, parameters-legal b (u .parameters))
 
 -- a legal picture and an undamaged block of it
 pub record Sound (p : Chosen) (b : Block) : Type 0 where
@@ -162,18 +175,23 @@ pub record Sound (p : Chosen) (b : Block) : Type 0 where
   pub block : Undamaged p b
 
 pub is-sound : (p : Chosen) (b : Block) → sound p b ≡ true → Sound p b
-is-sound p b e = record { chosen = legal-chosen p (and-left (legalChosen p) (undamaged p b) e); block = is-undamaged p b (and-right (legalChosen p) (undamaged p b) e) }
+is-sound p b e =
+    record {
+      chosen = legal-chosen p (and-left (legalChosen p) (undamaged p b) e);
+      block = is-undamaged p b (and-right (legalChosen p) (undamaged p b) e);
+    }
 
 -- another undamaged block of the same picture
 pub sound-from : (p : Chosen) (b d : Block) → sound p b ≡ true → undamaged p d ≡ true → sound p d ≡ true
 sound-from p b d e f = and-both (legalChosen p) (undamaged p d) (and-left (legalChosen p) (undamaged p b) e) f
 
 -- the whole line is legal for every parameter
-pub line-legal : (x : Interval) (integer : Bool) → sameInterval x wholeLine ≡ true → legalInterval x integer ≡ true
+whole-legal : (x : Interval) (integer : Bool) → sameInterval x wholeLine ≡ true → legalInterval x integer ≡ true
 unfolding sameInterval legalInterval eq le lt wholeBound
-line-legal x integer h = go (x .lower) (x .upper) integer h
+whole-legal x integer h = go (x .lower) (x .upper) integer h
   where
-    go : (a b : Float) (k : Bool) → (eq a (inf true) && eq b (inf false)) ≡ true → (legalBounds a b && (not k || (wholeBound a && wholeBound b))) ≡ true
+    go : (a b : Float) (k : Bool) → (eq a (inf true) && eq b (inf false)) ≡ true
+        → (legalBounds a b && (not k || (wholeBound a && wholeBound b))) ≡ true
     go nan b k h = absurd (false≢true h)
     go (fin s m e) b k h = absurd (false≢true h)
     go (inf false) b k h = absurd (false≢true h)
@@ -182,3 +200,7 @@ line-legal x integer h = go (x .lower) (x .upper) integer h
     go (inf true) (inf true) k h = absurd (false≢true h)
     go (inf true) (inf false) true h = refl
     go (inf true) (inf false) false h = refl
+
+pub line-legal : (x l : Interval) (integer same : Bool)
+    → l ≡ wholeLine → same ≡ sameInterval x l → same ≡ true → true ≡ legalInterval x integer
+line-legal x l integer same e f h = sym (whole-legal x integer (ap (λ (y : Interval). sameInterval x y) (sym e) ∙ sym f ∙ h))

@@ -12,7 +12,7 @@ use lib.Pow.{pow-pos, pow-mono}
 use Rattle.base.proofs.Test.{by-test}
 use Rattle.decide.specs.declared.verdict.Outcome.{Outcome}
 use Rattle.decide.specs.declared.verdict.Outcome.the-variants as O
-use Rattle.decide.specs.Verdict.{legalVerdict, firstPoint, undecidedOutcome, toldOutcome, outcomeOf, costOf, areaOf}
+use Rattle.decide.specs.Verdict.{legalVerdict, firstPoint, undecidedOutcome, verdictOutcome, outcomeOf, costOf, areaOf}
 
 -- zeros above count as leading ones
 pub leading-wider : (k j r : ℕ) → r < 2 ^ k → leadingZeros (k + j) r ≡ leadingZeros k r + j
@@ -43,29 +43,31 @@ pub legal-above : (rank v : ℕ) → 48 ≤ rank → (ltb (v / 64) 3 && eqb (v %
 unfolding legalVerdict
 legal-above rank v h = rw (le-leb 48 rank h)
 
-pub legal-below : (rank v : ℕ) → rank < 48 → (ltb (v / 64) 3 && (eqb (v % 32) 0 || (eqb (v / 64) 1 && eqb (v / 32 % 2) 1))) ≡ legalVerdict rank v
+pub legal-below : (rank v : ℕ) → rank < 48
+    → (ltb (v / 64) 3 && (eqb (v % 32) 0 || (eqb (v / 64) 1 && eqb (v / 32 % 2) 1))) ≡ legalVerdict rank v
 unfolding legalVerdict
 legal-below rank v h = rw (lt-leb 48 rank h)
 
 -- WHAT BECOMES OF A CHILD, by the tests in turn
 
-pub told-false : (rank v : ℕ) → v / 64 ≡ 0 → O.False ≡ toldOutcome rank v
-unfolding toldOutcome
-told-false rank v e = rw (eq-eqb (v / 64) 0 e)
+pub verdict-false : (rank v : ℕ) → v / 64 ≡ 0 → O.False ≡ verdictOutcome rank v
+unfolding verdictOutcome
+verdict-false rank v e = rw (eq-eqb (v / 64) 0 e)
 
-pub told-undecided : (rank v : ℕ) (o : Outcome) → v / 64 ≡ 1 → o ≡ undecidedOutcome v → o ≡ toldOutcome rank v
-unfolding toldOutcome
-told-undecided rank v o e f = rw (ne-eqb (v / 64) 0 (λ z. omega arith), eq-eqb (v / 64) 1 e) f
+pub verdict-undecided : (rank v : ℕ) (o : Outcome) → v / 64 ≡ 1 → o ≡ undecidedOutcome v → o ≡ verdictOutcome rank v
+unfolding verdictOutcome
+verdict-undecided rank v o e f = rw (ne-eqb (v / 64) 0 (λ z. omega arith), eq-eqb (v / 64) 1 e) f
 
-pub told-true : (rank v : ℕ) (b : Bool) → (v / 64 ≡ 0 → ⊥) → (v / 64 ≡ 1 → ⊥) → (leb 48 rank || eqb (v / 32 % 2) 1) ≡ b → cond b O.Area (O.Open 0) ≡ toldOutcome rank v
-unfolding toldOutcome
-told-true rank v b e f g = rw (ne-eqb (v / 64) 0 e, ne-eqb (v / 64) 1 f, g)
+pub verdict-true : (rank v : ℕ) (b : Bool) → (v / 64 ≡ 0 → ⊥) → (v / 64 ≡ 1 → ⊥)
+    → (leb 48 rank || eqb (v / 32 % 2) 1) ≡ b → cond b O.Area (O.Incomplete 0) ≡ verdictOutcome rank v
+unfolding verdictOutcome
+verdict-true rank v b e f g = rw (ne-eqb (v / 64) 0 e, ne-eqb (v / 64) 1 f, g)
 
-pub undecided-unsampled : (v : ℕ) → v / 32 % 2 ≡ 0 → O.Open 0 ≡ undecidedOutcome v
+pub undecided-unsampled : (v : ℕ) → v / 32 % 2 ≡ 0 → O.Incomplete 0 ≡ undecidedOutcome v
 unfolding undecidedOutcome
 undecided-unsampled v e = rw (ne-eqb (v / 32 % 2) 1 (λ z. omega arith))
 
-pub undecided-unfound : (v : ℕ) → (v / 32 % 2 ≡ 0 → ⊥) → v % 32 ≡ 0 → O.Open 5 ≡ undecidedOutcome v
+pub undecided-unfound : (v : ℕ) → (v / 32 % 2 ≡ 0 → ⊥) → v % 32 ≡ 0 → O.Incomplete 5 ≡ undecidedOutcome v
 unfolding undecidedOutcome
 undecided-unfound v e f = rw (eq-eqb (v / 32 % 2) 1 (omega arith), eq-eqb (v % 32) 0 f)
 
@@ -81,7 +83,8 @@ unfolding firstPoint
 place-of-five v h = let t = leading-top 5 (v % 32) (omega arith) (mod-lt v (lit< tt)) in omega (arith, t .1)
 
 -- bits after the first that is set play no part: r is whatever they say
-pub later-points : (place left r : ℕ) → place + left ≡ 5 → 0 < place → r < 2 ^ left → undecidedOutcome (96 + (2 ^ left + r)) ≡ O.Point place
+pub later-points : (place left r : ℕ) → place + left ≡ 5 → 0 < place → r < 2 ^ left
+    → undecidedOutcome (96 + (2 ^ left + r)) ≡ O.Point place
 unfolding firstPoint
 later-points place left r e p h =
     let l : 2 ^ left ≤ 2 ^ 4 = pow-mono {i = left} {j = 4} (omega arith) in
@@ -105,7 +108,7 @@ cost-undecided v =
 
 -- a child costs six evaluations at most: one for itself and five points
 pub cost-of-child : (rank v : ℕ) (all : Bool) → costOf (outcomeOf rank v all) ≤ 6
-unfolding toldOutcome
+unfolding verdictOutcome
 cost-of-child rank v true = omega arith
 cost-of-child rank v false =
     by-test (λ o. costOf o ≤ 6) (eqb (v / 64) 0) _ _ (λ e. omega arith)

@@ -1,8 +1,8 @@
 -- Document 01, the sentence of the step that lists the children of a block, by its direction.
-use mathlib.Core.Bool.{Bool, cond, _&&_, _||_}
+use mathlib.Core.Bool.{Bool, cond, _&&_}
 use mathlib.Core.List.{List, [], _∷_, _++_, map}
-use Prim.Native.Nat.{ℕ, _-_}
-use lib.Dec.{leb, ltb}
+use Prim.Native.Nat.{_-_}
+use lib.Dec.{ltb}
 use lib.ListN.{length, replicate}
 use Rattle.coordinate.specs.declared.Coordinate.{Coordinate}
 use Rattle.coordinate.specs.Axis.{inside}
@@ -17,7 +17,6 @@ use Rattle.queue.specs.declared.directions.DirectionAt.the-variants as A
 use Rattle.queue.specs.Block.{isInteger, parameterOf, withParameter}
 use Rattle.decide.specs.declared.Chosen.{Chosen}
 use Rattle.decide.specs.declared.children.Children.{Children}
-use Rattle.decide.specs.declared.children.Halves.{Halves}
 use Rattle.decide.specs.Damage.{sound, directionOf}
 
 -- the block at other coordinates
@@ -63,18 +62,3 @@ childrenOf p b = cond (sound p b) (childrenAlong p b (directionOf p b)) []
 -- a list of up to four as an array with a count: the places behind it hold the block itself
 abbrev pub listed : Block → List Block → Children
 listed b l = record { at = l ++ replicate (4 - length l) b; count = length l }
-
--- THE QUARTERS BY THE HALVES
-
--- is a half listed, by the rank of its whole? From level 0 down any is, above only one that begins inside its side
-abbrev pub isKept : ℕ → Coordinate → ℕ → Bool
-isKept rank c side = leb rank 48 || inside side (c .rank) (c .index)
-
-abbrev pub listedIf : Bool → Block → List Block → List Block
-listedIf t q l = cond t (q ∷ l) l
-
--- the first quarter, and those at the high halves as far as these are listed
-unfoldable pub quartersKept : Block → Halves → Halves → Bool → Bool → List Block
-quartersKept b x y right above =
-    movedTo b (x .low) (y .low) ∷ listedIf right (movedTo b (x .high) (y .low))
-    (listedIf above (movedTo b (x .low) (y .high)) (listedIf (right && above) (movedTo b (x .high) (y .high)) []))

@@ -12,7 +12,7 @@ use Rattle.interval.specs.Bounds.{legalInterval}
 use Rattle.image.specs.Cell.{Cell, isDamaged}
 use Rattle.image.specs.Range.{rectangleOf}
 use Rattle.image.specs.Painting.{heldCells, someOf, someSeen}
-use Rattle.image.specs.declared.Kind.the-variants as K
+use Rattle.image.specs.declared.CellKind.the-variants as K
 use Rattle.image.specs.declared.Seen.{Seen}
 use Rattle.queue.specs.declared.Block.{Block}
 use Rattle.queue.specs.declared.directions.Direction.{Direction}

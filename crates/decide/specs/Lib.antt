@@ -1,5 +1,6 @@
 -- The definitions that the contracts cite, in the document's order.
 pub mod Damage
 pub mod Children
+pub mod ChildrenComputed
 pub mod Verdict
 pub mod Turn

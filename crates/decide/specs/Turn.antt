@@ -22,17 +22,17 @@ use Rattle.decide.specs.declared.turn.Turned.the-variants as T
 use Rattle.decide.specs.Damage.{directionOf}
 
 -- so many incomplete children are few, by the direction in which their parent was cut
-abbrev pub openLimit : DirectionAt → ℕ
-openLimit (A.Along D.XY) = 1
-openLimit (A.Along D.M) = 2
-openLimit (A.Along D.N) = 2
-openLimit (A.Along D.Theta) = 2
-openLimit (A.Along D.T) = 2
-openLimit A.Beyond = 0
+abbrev pub incompleteLimit : DirectionAt → ℕ
+incompleteLimit (A.Along D.XY) = 1
+incompleteLimit (A.Along D.M) = 2
+incompleteLimit (A.Along D.N) = 2
+incompleteLimit (A.Along D.Theta) = 2
+incompleteLimit (A.Along D.T) = 2
+incompleteLimit A.Beyond = 0
 
 -- while they are few the search begins at the parent's direction, else at the one after it
 unfoldable pub startOf : Chosen → Block → ℕ → ℕ
-startOf p b incomplete = cond (leb incomplete (openLimit (directionOf p b))) (b .dir) (b .dir + 1)
+startOf p b incomplete = cond (leb incomplete (incompleteLimit (directionOf p b))) (b .dir) (b .dir + 1)
 
 -- is a parameter subdivisible? One that is not legal is not
 unfoldable pub splitsAt : Interval → Bool → Bool

@@ -40,18 +40,18 @@ firstPoint v = leadingZeros 5 (pointsOf v) + 1
 -- undecided: a point that succeeds marks the child, after as many points as its place; none leaves it incomplete, after all five,
 -- or after none where there is no sample area
 unfoldable pub undecidedOutcome : ℕ → Outcome
-undecidedOutcome v = cond (areaOf v) (cond (eqb (pointsOf v) 0) (O.Open 5) (O.Point (firstPoint v))) (O.Open 0)
+undecidedOutcome v = cond (areaOf v) (cond (eqb (pointsOf v) 0) (O.Incomplete 5) (O.Point (firstPoint v))) (O.Incomplete 0)
 
 -- by the result; true marks the child at any level where there is a sample area, and without one only from level 0 up
-unfoldable pub toldOutcome : ℕ → ℕ → Outcome
-toldOutcome rank v =
+unfoldable pub verdictOutcome : ℕ → ℕ → Outcome
+verdictOutcome rank v =
     cond (eqb (resultOf v) 0) O.False
     (cond (eqb (resultOf v) 1) (undecidedOutcome v)
-    (cond (leb 48 rank || areaOf v) O.Area (O.Open 0)))
+    (cond (leb 48 rank || areaOf v) O.Area (O.Incomplete 0)))
 
 -- a child whose cells are all True is skipped, whatever its verdict
 abbrev pub outcomeOf : ℕ → ℕ → Bool → Outcome
-outcomeOf rank v all = cond all O.Skipped (toldOutcome rank v)
+outcomeOf rank v all = cond all O.Skipped (verdictOutcome rank v)
 
 -- a skipped child costs nothing, any other one evaluation and its points
 abbrev pub costOf : Outcome → ℕ
@@ -59,7 +59,7 @@ costOf O.Skipped = 0
 costOf O.False = 1
 costOf O.Area = 1
 costOf (O.Point place) = place + 1
-costOf (O.Open tried) = tried + 1
+costOf (O.Incomplete tried) = tried + 1
 
 -- which outcomes mark the child's pixels, and which leave it incomplete
 abbrev pub isMarking : Outcome → Bool
@@ -67,11 +67,11 @@ isMarking O.Skipped = false
 isMarking O.False = false
 isMarking O.Area = true
 isMarking (O.Point place) = true
-isMarking (O.Open tried) = false
+isMarking (O.Incomplete tried) = false
 
-abbrev pub isOpen : Outcome → Bool
-isOpen O.Skipped = false
-isOpen O.False = false
-isOpen O.Area = false
-isOpen (O.Point place) = false
-isOpen (O.Open tried) = true
+abbrev pub isIncomplete : Outcome → Bool
+isIncomplete O.Skipped = false
+isIncomplete O.False = false
+isIncomplete O.Area = false
+isIncomplete (O.Point place) = false
+isIncomplete (O.Incomplete tried) = true

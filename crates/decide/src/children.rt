@@ -7,21 +7,23 @@ ghost use Rattle.coordinate.specs.Lone.{legal, lowHalf, highHalf, halvesAsked};
 ghost use Rattle.interval.specs.Bounds.{legalInterval};
 ghost use Rattle.queue.specs.Block.{isInteger, parameterOf};
 ghost use Rattle.decide.specs.Damage.{sound, directionOf};
-ghost use Rattle.decide.specs.Children.{movedTo, isKept, quartersKept, childrenXY, childrenCut, childrenAlong, childrenOf, listed};
+ghost use Rattle.decide.specs.Children.{movedTo, childrenXY, childrenCut, childrenAlong, childrenOf, listed};
+ghost use Rattle.decide.specs.ChildrenComputed.{isKept, quartersKept};
 use super::Chosen;
 use super::damage::is_legal_chosen;
 use super::damage::is_placed;
 use super::damage::is_undamaged;
 use coordinate::Coordinate;
-use coordinate::Halved;
-use interval::Pieces;
+use coordinate::HalvesAnswer;
+use coordinate::PIXEL_RANK;
+use interval::PiecesAnswer;
 use queue::Block;
-use queue::directions::Direction;
-use queue::directions::DirectionAt;
-use queue::directions::direction_at;
-use queue::kept::is_integer;
-use queue::kept::parameter_of;
-use queue::kept::with_parameter;
+use queue::Direction;
+use queue::DirectionAt;
+use queue::direction_at;
+use queue::is_integer;
+use queue::parameter_of;
+use queue::with_parameter;
 
 // The children of a block, the first `count` of them; the places behind hold the block itself.
 #[repr(C)]
@@ -118,12 +120,12 @@ fn children_xy(p: Chosen, b: Block) -> Children
 
 // Both halves of a coordinate that has them.
 fn halves_of(c: Coordinate) -> Halves
-    requires { ⌜ halvesAsked ordinaryFloor c ≡ Halved.Halves (lowHalf c) (highHalf c) ⌝ }
+    requires { ⌜ halvesAsked ordinaryFloor c ≡ HalvesAnswer.Halves (lowHalf c) (highHalf c) ⌝ }
     ensures { λ r. ⌜ (r .low ≡ lowHalf c) × (r .high ≡ highHalf c) ⌝ }
 {
     match coordinate::subdivide(c) {
-        Halved::Halves { low, high } => Halves { low, high },
-        Halved::Refused(_) => Halves { low: c, high: c },
+        HalvesAnswer::Halves { low, high } => Halves { low, high },
+        HalvesAnswer::Refused(_) => Halves { low: c, high: c },
     }
 }
 
@@ -132,7 +134,7 @@ fn is_kept(rank: u8, c: Coordinate, side: u32) -> bool
     requires { ⌜ legal ordinaryFloor c ≡ true ⌝ }
     ensures { λ r. ⌜ r ≡ isKept rank c side ⌝ }
 {
-    (rank <= 48) | is_placed(c, side)
+    (rank <= PIXEL_RANK) | is_placed(c, side)
 }
 
 // The first quarter, which begins where the block does, and those at the high halves as far as these are listed.
@@ -189,14 +191,14 @@ fn children_cut(b: Block, d: Direction) -> Children
     ensures { λ r. ⌜ r ≡ listed b (childrenCut b d) ⌝ }
 {
     match interval::later_cut(parameter_of(b, d), is_integer(d)) {
-        Pieces::One(p) => list_one(b, with_parameter(b, d, p)),
-        Pieces::Two(p, q) => list_two(b, with_parameter(b, d, p), with_parameter(b, d, q)),
-        Pieces::Three(p, q, r) => list_three(
+        PiecesAnswer::One(p) => list_one(b, with_parameter(b, d, p)),
+        PiecesAnswer::Two(p, q) => list_two(b, with_parameter(b, d, p), with_parameter(b, d, q)),
+        PiecesAnswer::Three(p, q, r) => list_three(
             b,
             with_parameter(b, d, p),
             with_parameter(b, d, q),
             with_parameter(b, d, r),
         ),
-        Pieces::Refused(_) => no_child(b),
+        PiecesAnswer::Refused(_) => no_child(b),
     }
 }

@@ -4,15 +4,17 @@ ghost use Rattle.interval.specs.Bounds.{legalInterval};
 ghost use Rattle.decide.specs.Damage.{legalSide, legalChosen, placeRight, directionOf, directionRight, cuttable, parametersRight, undamaged, damageSeen};
 use super::Chosen;
 use coordinate::Coordinate;
-use image::Kind;
+use coordinate::FLOOR_RANK;
+use coordinate::LONGEST_SIDE;
+use image::CellKind;
 use image::Seen;
 use interval::Interval;
 use queue::Block;
-use queue::directions::Direction;
-use queue::directions::DirectionAt;
-use queue::directions::direction_at;
-use queue::directions::direction_count;
-use queue::kept::whole_line;
+use queue::Direction;
+use queue::DirectionAt;
+use queue::direction_at;
+use queue::direction_count;
+use queue::whole_line;
 use refusal::Whether;
 
 // Whether the sides and the variable set are ones that a setup takes.
@@ -26,7 +28,7 @@ pub fn is_legal_chosen(p: Chosen) -> bool
 pub fn is_legal_side(side: u32) -> bool
     ensures { λ r. ⌜ r ≡ legalSide side ⌝ }
 {
-    (1 <= side) & (side <= 32768)
+    (1 <= side) & (side <= LONGEST_SIDE)
 }
 
 // Whether a block taken from a queue is one that a step can go on with.
@@ -68,7 +70,7 @@ pub(crate) fn is_cuttable(b: Block, d: Direction) -> bool
 {
     let x = b.x;
     match d {
-        Direction::XY => 16 < x.rank,
+        Direction::XY => FLOOR_RANK < x.rank,
         Direction::M => true,
         Direction::N => true,
         Direction::Theta => true,
@@ -77,7 +79,7 @@ pub(crate) fn is_cuttable(b: Block, d: Direction) -> bool
 }
 
 // Whether a parameter is legal; as a rule it is not in use, and the whole line.
-fn is_right(x: Interval, integer: bool) -> bool
+fn is_legal_parameter(x: Interval, integer: bool) -> bool
     ensures { λ r. ⌜ r ≡ legalInterval x integer ⌝ }
 {
     if interval::is_same(x, whole_line()) {
@@ -89,10 +91,10 @@ fn is_right(x: Interval, integer: bool) -> bool
 fn has_legal_parameters(b: Block) -> bool
     ensures { λ r. ⌜ r ≡ parametersRight b ⌝ }
 {
-    let m = is_right(b.m, true);
-    let n = is_right(b.n, true);
-    let theta = is_right(b.theta, true);
-    let t = is_right(b.t, false);
+    let m = is_legal_parameter(b.m, true);
+    let n = is_legal_parameter(b.n, true);
+    let theta = is_legal_parameter(b.theta, true);
+    let t = is_legal_parameter(b.t, false);
     m & n & theta & t
 }
 
@@ -101,5 +103,5 @@ pub fn has_damaged_cell(p: Chosen, b: Block, cells: &[u64]) -> Seen
     ensures { λ r. ⌜ r ≡ damageSeen p b (now (cells .entry)) ⌝ }
 {
     let r = image::rectangle(b.x, b.y, p.width, p.height);
-    image::is_one(cells, p.width, p.height, r, Kind::Damaged)
+    image::rectangle_holds(cells, p.width, p.height, r, CellKind::Damaged)
 }

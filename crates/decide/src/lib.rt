@@ -2,10 +2,24 @@
 // Document 01, "Picture and step"; from the Rust's graph/implicit.rs (`subdivide_xy`, `process_block`, the search for a direction).
 // There is no ring here, and no cell is written. Every public function takes any picture, block, verdicts and cells.
 
-pub mod children;
-pub mod damage;
-pub mod turn;
-pub mod verdict;
+mod children;
+mod damage;
+mod turn;
+mod verdict;
+
+pub use children::Children;
+pub use children::children_of;
+pub use damage::has_damaged_cell;
+pub use damage::is_legal_chosen;
+pub use damage::is_legal_side;
+pub use turn::Found;
+pub use turn::Turned;
+pub use turn::start_of;
+pub use turn::turn_from;
+pub use verdict::Outcome;
+pub use verdict::cost_of;
+pub use verdict::is_legal_verdict;
+pub use verdict::judge;
 
 // What a setup chooses and no step changes: the sides in pixels, and the variables in use. The reserved bytes are for what later
 // releases let a setup choose: setup makes them 0, and nothing looks at them.

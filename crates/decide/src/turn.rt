@@ -3,15 +3,15 @@ ghost use mathlib.Core.Path.{_≡_};
 ghost use Prim.Native.Nat.{_%_, _^_, _<_};
 ghost use Rattle.queue.specs.Directions.{directions, directionAt};
 ghost use Rattle.decide.specs.Damage.{directionOf};
-ghost use Rattle.decide.specs.Turn.{openLimit, startOf, splitsAt, subdivisibleAlong, searched, turnedFound};
+ghost use Rattle.decide.specs.Turn.{incompleteLimit, startOf, splitsAt, subdivisibleAlong, searched, turnedFound};
 use super::Chosen;
 use super::damage::is_cuttable;
 use interval::Interval;
 use queue::Block;
-use queue::directions::Direction;
-use queue::directions::DirectionAt;
-use queue::directions::direction_at;
-use queue::directions::direction_count;
+use queue::Direction;
+use queue::DirectionAt;
+use queue::direction_at;
+use queue::direction_count;
 use refusal::Whether;
 
 // An incomplete child with its next direction.
@@ -45,7 +45,7 @@ pub fn turn_from(p: Chosen, start: u16, c: Block) -> Turned
 pub fn start_of(p: Chosen, b: Block, incomplete: usize) -> u16
     ensures { λ r. ⌜ r ≡ startOf p b incomplete ⌝ }
 {
-    if incomplete <= open_limit(p, b) {
+    if incomplete <= incomplete_limit(p, b) {
         b.dir as u16
     } else {
         b.dir as u16 + 1
@@ -53,8 +53,8 @@ pub fn start_of(p: Chosen, b: Block, incomplete: usize) -> u16
 }
 
 // How many incomplete children are few.
-fn open_limit(p: Chosen, b: Block) -> usize
-    ensures { λ r. ⌜ r ≡ openLimit (directionOf p b) ⌝ }
+fn incomplete_limit(p: Chosen, b: Block) -> usize
+    ensures { λ r. ⌜ r ≡ incompleteLimit (directionOf p b) ⌝ }
 {
     match direction_at(p.set, b.dir) {
         DirectionAt::Along(d) => match d {

@@ -1,7 +1,8 @@
 // Verdict bytes: which are legal, what becomes of a child, and what its evaluation costs.
 ghost use mathlib.Core.Path.{_≡_};
 ghost use Prim.Native.Nat.{_<_, _%_, _/_};
-ghost use Rattle.decide.specs.Verdict.{legalVerdict, firstPoint, undecidedOutcome, toldOutcome, outcomeOf, costOf};
+ghost use Rattle.decide.specs.Verdict.{legalVerdict, firstPoint, undecidedOutcome, verdictOutcome, outcomeOf, costOf};
+use coordinate::PIXEL_RANK;
 
 // What becomes of a child before directions are sought.
 pub enum Outcome {
@@ -14,14 +15,14 @@ pub enum Outcome {
     // A sample point was found true, the first at this place.
     Point(u8),
     // Nothing is decided, after so many sample points.
-    Open(u8),
+    Incomplete(u8),
 }
 
 // Whether a verdict byte is one that a child of this rank can get.
 pub fn is_legal_verdict(rank: u8, v: u8) -> bool
     ensures { λ r. ⌜ r ≡ legalVerdict rank v ⌝ }
 {
-    if 48 <= rank {
+    if PIXEL_RANK <= rank {
         return (v / 64 < 3) & (v % 64 == 0);
     }
     (v / 64 < 3) & ((v % 32 == 0) | ((v / 64 == 1) & (v / 32 % 2 == 1)))
@@ -34,12 +35,12 @@ pub fn judge(rank: u8, v: u8, all: bool) -> Outcome
     if all {
         return Outcome::Skipped;
     }
-    told(rank, v)
+    by_verdict(rank, v)
 }
 
 // What a verdict makes of a child that is not skipped.
-fn told(rank: u8, v: u8) -> Outcome
-    ensures { λ r. ⌜ r ≡ toldOutcome rank v ⌝ }
+fn by_verdict(rank: u8, v: u8) -> Outcome
+    ensures { λ r. ⌜ r ≡ verdictOutcome rank v ⌝ }
 {
     if v / 64 == 0 {
         return Outcome::False;
@@ -47,10 +48,10 @@ fn told(rank: u8, v: u8) -> Outcome
     if v / 64 == 1 {
         return undecided(v);
     }
-    if (48 <= rank) | (v / 32 % 2 == 1) {
+    if (PIXEL_RANK <= rank) | (v / 32 % 2 == 1) {
         return Outcome::Area;
     }
-    Outcome::Open(0)
+    Outcome::Incomplete(0)
 }
 
 // What an undecided verdict makes of a child: without the area bit no point is tried.
@@ -59,10 +60,10 @@ fn undecided(v: u8) -> Outcome
     ensures { λ r. ⌜ r ≡ undecidedOutcome v ⌝ }
 {
     if v / 32 % 2 == 0 {
-        return Outcome::Open(0);
+        return Outcome::Incomplete(0);
     }
     if v % 32 == 0 {
-        return Outcome::Open(5);
+        return Outcome::Incomplete(5);
     }
     Outcome::Point(first_point(v))
 }
@@ -84,6 +85,6 @@ pub fn cost_of(o: Outcome) -> u64
         Outcome::False => 1,
         Outcome::Area => 1,
         Outcome::Point(place) => place as u64 + 1,
-        Outcome::Open(points) => points as u64 + 1,
+        Outcome::Incomplete(points) => points as u64 + 1,
     }
 }

@@ -44,15 +44,15 @@ module _ {A : Type 0} where
       let e : i + suc (length l) ≡ suc i + length l = omega arith in
       rw e (ap (λ (r : List A). f i c ∷ r) (mapAt-append f (suc i) l m))
 
-  -- a list in three runs: before a, k elements from a on, the rest
+  -- a list in three stretches: before a, k elements from a on, the rest
   thirds : (a k : ℕ) (l : List A) → l ≡ take a l ++ (take k (drop a l) ++ drop k (drop a l))
   thirds a k l = sym (take-append-drop a l) ∙ ap (λ (m : List A). take a l ++ m) (sym (take-append-drop k (drop a l)))
 
-  -- a change of the run alone is the run's change between the other two
-  pub mapAt-run : (f : ℕ → A → A) (g : A → A) (a k : ℕ) (l : List A) → a + k ≤ length l
+  -- a change of the stretch alone is the stretch's change between the other two
+  pub mapAt-stretch : (f : ℕ → A → A) (g : A → A) (a k : ℕ) (l : List A) → a + k ≤ length l
       → ((j : ℕ) (c : A) → a ≤ j → j < a + k → f j c ≡ g c) → ((j : ℕ) (c : A) → j < a → f j c ≡ c) → ((j : ℕ) (c : A) → a + k ≤ j → f j c ≡ c)
       → mapAt f 0 l ≡ take a l ++ (map g (take k (drop a l)) ++ drop k (drop a l))
-  mapAt-run f g a k l h on below above =
+  mapAt-stretch f g a k l h on below above =
       let la : length (take a l) ≡ a = length-take-le a l (omega arith) in
       let ld : length (drop a l) ≡ length l - a = length-drop a l in
       let lk : length (take k (drop a l)) ≡ k = length-take-le k (drop a l) (omega arith) in
@@ -100,11 +100,11 @@ module _ {A : Type 0} where
       go true h = omega arith
       go false h = omega arith
 
-  -- the run's elements come first where nothing before it is picked
-  pub keepAt-run : (t u : ℕ → Bool) (a k : ℕ) (l : List A) → a + k ≤ length l
+  -- the stretch's elements come first where nothing before it is picked
+  pub keepAt-stretch : (t u : ℕ → Bool) (a k : ℕ) (l : List A) → a + k ≤ length l
       → ((j : ℕ) → j < a → t j ≡ false) → ((j : ℕ) → a ≤ j → j < a + k → t j ≡ true) → ((j : ℕ) → a + k ≤ j → t j ≡ u j) → ((j : ℕ) → j < a + k → u j ≡ false)
       → keepAt t 0 l ≡ take k (drop a l) ++ keepAt u 0 l
-  keepAt-run t u a k l h below on above none =
+  keepAt-stretch t u a k l h below on above none =
       let la : length (take a l) ≡ a = length-take-le a l (omega arith) in
       let ld : length (drop a l) ≡ length l - a = length-drop a l in
       let lk : length (take k (drop a l)) ≡ k = length-take-le k (drop a l) (omega arith) in

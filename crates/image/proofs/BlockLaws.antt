@@ -8,7 +8,7 @@ use native.Mathlib.Omega.{arith}
 use lib.Dec.{leb}
 use lib.ListN.{length, getD}
 use Rattle.coordinate.specs.declared.Coordinate.{Coordinate}
-use Rattle.coordinate.specs.Axis.{covers1}
+use Rattle.coordinate.proofs.Covering.{covers1}
 use Rattle.image.specs.declared.Op.{Op}
 use Rattle.image.specs.Cell.{Cell, Named, Marked, GivenUp, Other, doneTo, isMarked}
 use Rattle.image.specs.Range.{cellIndex, holdsCell, pictureReady, rectangleOf}

@@ -9,9 +9,11 @@ use borrow.Author.Tests.{ltb-true, ltb-false, eqb-true, eqb-false, lt-ltb, le-lt
 use Rattle.base.proofs.Test.{cases, cond-yes}
 use Rattle.image.specs.declared.Op.{Op}
 use Rattle.image.specs.declared.Op.the-variants as O
-use Rattle.image.specs.declared.Kind.the-variants as K
+use Rattle.image.specs.declared.CellKind.the-variants as K
 use Rattle.image.specs.declared.Reading.the-variants as R
-use Rattle.image.specs.Cell.{Cell, Named, Marked, GivenUp, Other, trueCode, givenUpCode, cellCode, meaningOf, hasCode, meanings, codes, doneTo, touched, nameable, reading, isMarked, isGivenUp, isDamaged, ofKind}
+use Rattle.image.specs.Cell.{Cell, Named, Marked, GivenUp, Other, trueCode, givenUpCode, cellCode, meaningOf, isNumber}
+use Rattle.image.specs.Cell.{meanings, codes, doneTo, nameable, reading, isMarked, isGivenUp, isDamaged, ofKind}
+use Rattle.image.specs.RowsComputed.{touched}
 
 -- THE CODES, ONE BY ONE
 
@@ -43,6 +45,13 @@ by-code P named marked given other n =
     (λ g. (let h : givenUpCode < n = omega (arith, ltb-false n trueCode e, eqb-false n trueCode f, eqb-false n givenUpCode g) in rw (means-other n h) (other n h)))))
 
 -- ONE TO ONE
+
+-- a meaning that a code can have
+unfoldable pub hasCode : Cell → Bool
+hasCode (Named n) = isNumber n
+hasCode Marked = true
+hasCode GivenUp = true
+hasCode (Other n) = ltb givenUpCode n
 
 pub code-meaning : (n : ℕ) → cellCode (meaningOf n) ≡ n
 unfolding cellCode
@@ -112,7 +121,7 @@ pub unmarked-code : (n : ℕ) → ofKind K.Unmarked (meaningOf n) ≡ not (eqb n
 unfolding ofKind isMarked
 unmarked-code = by-code (λ n c. not (isMarked c) ≡ not (eqb n trueCode)) (λ n h. rw (ne-eqb n trueCode (λ e. omega arith))) refl refl (λ n h. rw (ne-eqb n trueCode (λ e. omega arith)))
 
-pub abandoned-code : (n : ℕ) → ofKind K.Abandoned (meaningOf n) ≡ eqb n givenUpCode
+pub abandoned-code : (n : ℕ) → ofKind K.GivenUp (meaningOf n) ≡ eqb n givenUpCode
 unfolding ofKind isGivenUp
 abandoned-code = by-code (λ n c. isGivenUp c ≡ eqb n givenUpCode) (λ n h. rw (ne-eqb n givenUpCode (λ e. omega arith))) refl refl (λ n h. rw (ne-eqb n givenUpCode (λ e. omega arith)))
 

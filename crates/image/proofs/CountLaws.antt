@@ -1,4 +1,4 @@
--- Laws of what a rectangle's cells show: some of a kind, every one, and the counts; and the turns of the loops. Assumes nothing.
+-- Laws of what a rectangle's cells show: some of a kind, every one, and the counts; and the passes of the loops. Assumes nothing.
 use mathlib.Core.Path.{_≡_, refl, sym, ap, _∙_}
 use mathlib.Core.Bool.{Bool, true, false, not, cond, _&&_, _||_, true≢false, false≢true, or-assoc}
 use mathlib.Core.List.{List, [], _∷_, _++_, map-append}
@@ -12,20 +12,22 @@ use lib.ListN as L
 use lib.Seq.{drop-cons}
 use mir.Val.{boolByte}
 use Rattle.base.proofs.Test.{cases, cond-yes, cond-no, and-left, and-right, and-both}
-use Rattle.image.specs.declared.Kind.{Kind}
-use Rattle.image.specs.declared.Kind.the-variants as K
+use Rattle.image.specs.declared.CellKind.{CellKind}
+use Rattle.image.specs.declared.CellKind.the-variants as K
 use Rattle.image.specs.declared.Reading.the-variants as R
 use Rattle.image.specs.declared.PixelRange.{PixelRange}
 use Rattle.image.specs.declared.Seen.{Seen}
 use Rattle.image.specs.declared.Seen.the-variants as S
-use Rattle.image.specs.declared.Tally.{Tally}
-use Rattle.image.specs.declared.TallyAnswer.the-variants as A
-use Rattle.image.specs.Cell.{Cell, Named, Marked, GivenUp, Other, givenUpCode, meaningOf, meanings, reading, isMarked, isGivenUp, ofKind, countOf, isTrue, isFalse, isUncertain, tallied, tallySum, SmallTally}
+use Rattle.image.specs.declared.CellTally.{CellTally}
+use Rattle.image.specs.declared.CellTallyAnswer.the-variants as A
+use Rattle.image.specs.Cell.{Cell, Named, Marked, GivenUp, Other, givenUpCode, meaningOf, meanings, reading, isMarked, isGivenUp, ofKind}
+use Rattle.image.specs.Cell.{countOf, isTrue, isFalse, isUncertain, tallied}
 use Rattle.image.specs.Range.{holdsCell, pictureReady}
 use Rattle.image.specs.Painting.{keepAt, heldCells, someOf, everyOf, seenIf, someSeen, allTrueSeen, tallyAnswer}
-use Rattle.image.proofs.AtLaws.{keepAt-none, length-keepAt, keepAt-run, keepAt-map}
+use Rattle.image.specs.RowsComputed.{tallySum, SmallTally}
+use Rattle.image.proofs.AtLaws.{keepAt-none, length-keepAt, keepAt-stretch, keepAt-map}
 use Rattle.image.proofs.CellLaws.{abandoned-code}
-use Rattle.image.proofs.RangeLaws.{band, run-held, run-past, run-first, run-rest, band-none}
+use Rattle.image.proofs.RangeLaws.{band, stretch-held, stretch-past, stretch-first, stretch-rest, band-none}
 
 -- LISTS
 
@@ -157,16 +159,16 @@ unfolding heldFrom
 held-end width left right row bottom l e =
     rw e (ap meanings (keepAt-none (holdsCell width (band left right bottom bottom)) 0 l (λ j p q. band-none width left right bottom j)))
 
-pub held-turn : (width left right row bottom start end : ℕ) (l : List ℕ) → left ≤ right → right ≤ width → row < bottom
+pub held-pass : (width left right row bottom start end : ℕ) (l : List ℕ) → left ≤ right → right ≤ width → row < bottom
     → start ≡ row * width + left → end ≡ row * width + right → end ≤ length l
     → heldFrom width left right row bottom l ≡ meanings (take (end - start) (drop start l)) ++ heldFrom width left right (row + 1) bottom l
 unfolding heldFrom
-held-turn width left right row bottom start end l across fits more s e long =
-    ap meanings (keepAt-run (holdsCell width (band left right row bottom)) (holdsCell width (band left right (row + 1) bottom)) start (end - start) l (omega arith)
-    (λ j p. run-first width left right row bottom fits more j (omega arith))
-    (λ j p q. run-held width left right row bottom fits more j (omega arith) (omega arith))
-    (λ j p. run-rest width left right row bottom fits more j (λ a b. omega arith))
-    (λ j p. run-past width left right row bottom fits more j (omega arith)))
+held-pass width left right row bottom start end l across fits more s e long =
+    ap meanings (keepAt-stretch (holdsCell width (band left right row bottom)) (holdsCell width (band left right (row + 1) bottom)) start (end - start) l (omega arith)
+    (λ j p. stretch-first width left right row bottom fits more j (omega arith))
+    (λ j p q. stretch-held width left right row bottom fits more j (omega arith) (omega arith))
+    (λ j p. stretch-rest width left right row bottom fits more j (λ a b. omega arith))
+    (λ j p. stretch-past width left right row bottom fits more j (omega arith)))
     ∙ map-append meaningOf (take (end - start) (drop start l)) (keepAt (holdsCell width (band left right (row + 1) bottom)) 0 l)
 
 pub held-length : (width left right row bottom : ℕ) (l : List ℕ) → length (heldFrom width left right row bottom l) ≤ length l
@@ -179,7 +181,7 @@ pub some-not-here : (test : Cell → Bool) (width left right row bottom start en
     → start ≡ row * width + left → end ≡ row * width + right → end ≤ length l → someOf test (meanings (take (end - start) (drop start l))) ≡ false
     → someOf test (heldFrom width left right (row + 1) bottom l) ≡ someOf test (heldFrom width left right row bottom l)
 some-not-here test width left right row bottom start end l across fits more s e long t =
-    sym (ap (someOf test) (held-turn width left right row bottom start end l across fits more s e long)
+    sym (ap (someOf test) (held-pass width left right row bottom start end l across fits more s e long)
     ∙ some-append test (meanings (take (end - start) (drop start l))) (heldFrom width left right (row + 1) bottom l)
     ∙ ap (λ (b : Bool). b || someOf test (heldFrom width left right (row + 1) bottom l)) t)
 
@@ -187,7 +189,7 @@ pub some-here : (test : Cell → Bool) (width left right row bottom start end : 
     → start ≡ row * width + left → end ≡ row * width + right → end ≤ length l → someOf test (meanings (take (end - start) (drop start l))) ≡ true
     → someOf test (heldFrom width left right row bottom l) ≡ true
 some-here test width left right row bottom start end l across fits more s e long t =
-    ap (someOf test) (held-turn width left right row bottom start end l across fits more s e long)
+    ap (someOf test) (held-pass width left right row bottom start end l across fits more s e long)
     ∙ some-append test (meanings (take (end - start) (drop start l))) (heldFrom width left right (row + 1) bottom l)
     ∙ ap (λ (b : Bool). b || someOf test (heldFrom width left right (row + 1) bottom l)) t
 
@@ -196,14 +198,15 @@ some-here test width left right row bottom start end l across fits more s e long
 pub drop-meanings : (row : List ℕ) (i : ℕ) → i < length row → meanings (drop i row) ≡ meaningOf (getD row i 0) ∷ meanings (drop (i + 1) row)
 drop-meanings row i h = rw (add-one, drop-cons row i 0 h)
 
-pub find-hit : (test : Cell → Bool) (row : List ℕ) (i : ℕ) → i < length row → test (meaningOf (getD row i 0)) ≡ true → someOf test (meanings (drop i row)) ≡ true
+pub find-hit : (test : Cell → Bool) (row : List ℕ) (i : ℕ) → i < length row → test (meaningOf (getD row i 0)) ≡ true
+    → someOf test (meanings (drop i row)) ≡ true
 unfolding someOf
 find-hit test row i h t = ap (someOf test) (drop-meanings row i h) ∙ ap (λ (b : Bool). b || someOf test (meanings (drop (i + 1) row))) t
 
-pub find-turn : (test : Cell → Bool) (row : List ℕ) (i : ℕ) → i < length row → test (meaningOf (getD row i 0)) ≡ false
+pub find-pass : (test : Cell → Bool) (row : List ℕ) (i : ℕ) → i < length row → test (meaningOf (getD row i 0)) ≡ false
     → someOf test (meanings (drop (i + 1) row)) ≡ someOf test (meanings (drop i row))
 unfolding someOf
-find-turn test row i h t = sym (ap (someOf test) (drop-meanings row i h) ∙ ap (λ (b : Bool). b || someOf test (meanings (drop (i + 1) row))) t)
+find-pass test row i h t = sym (ap (someOf test) (drop-meanings row i h) ∙ ap (λ (b : Bool). b || someOf test (meanings (drop (i + 1) row))) t)
 
 pub find-end : (test : Cell → Bool) (row : List ℕ) (i : ℕ) → length row ≤ i → someOf test (meanings (drop i row)) ≡ false
 unfolding someOf
@@ -212,72 +215,75 @@ find-end test row i h = ap (λ (l : List ℕ). someOf test (meanings l)) (drop-o
 -- SUMS OF COUNTS
 
 -- no counts yet
-abbrev pub noTally : Tally
+abbrev pub noTally : CellTally
 noTally = record { trues = 0; falses = 0; uncertain = 0; givenup = 0 }
 
-pub tally-start : (t : Tally) → tallySum noTally t ≡ t
+pub tally-start : (t : CellTally) → tallySum noTally t ≡ t
 tally-start t = simp zero-add
 
-plus-none : (t : Tally) → tallySum t noTally ≡ t
+plus-none : (t : CellTally) → tallySum t noTally ≡ t
 plus-none t = simp add-zero
 
-plus-assoc : (t u v : Tally) → tallySum (tallySum t u) v ≡ tallySum t (tallySum u v)
+plus-assoc : (t u v : CellTally) → tallySum (tallySum t u) v ≡ tallySum t (tallySum u v)
 plus-assoc t u v = simp add-assoc
 
-pub tally-none : (taken : ℕ) (t : Tally) (l : List Cell) → l ≡ [] → tallySum t (tallied taken l) ≡ t
+pub tally-none : (taken : ℕ) (t : CellTally) (l : List Cell) → l ≡ [] → tallySum t (tallied taken l) ≡ t
 unfolding tallied countOf
 tally-none taken t l e = rw e (plus-none t)
 
 -- what is counted so far, and what is left, together
-pub tally-turn : (taken : ℕ) (t u t₁ total : Tally) (l m : List Cell) → tallySum t (tallied taken (l ++ m)) ≡ total → u ≡ tallied taken l → t₁ ≡ tallySum t u → tallySum t₁ (tallied taken m) ≡ total
-tally-turn taken t u t₁ total l m e f g =
-    ap (λ (x : Tally). tallySum x (tallied taken m)) (g ∙ ap (tallySum t) f) ∙ plus-assoc t (tallied taken l) (tallied taken m)
+pub tally-pass : (taken : ℕ) (t u t₁ total : CellTally) (l m : List Cell) → tallySum t (tallied taken (l ++ m)) ≡ total → u ≡ tallied taken l
+    → t₁ ≡ tallySum t u → tallySum t₁ (tallied taken m) ≡ total
+tally-pass taken t u t₁ total l m e f g =
+    ap (λ (x : CellTally). tallySum x (tallied taken m)) (g ∙ ap (tallySum t) f) ∙ plus-assoc t (tallied taken l) (tallied taken m)
     ∙ ap (tallySum t) (sym (tally-append taken l m)) ∙ e
 
 -- no part is larger than the whole
-pub part-small : (t u v : Tally) → tallySum t u ≡ v → SmallTally v → SmallTally t
+pub part-small : (t u v : CellTally) → tallySum t u ≡ v → SmallTally v → SmallTally t
 part-small t u v e s = record {
-  trues = omega (arith, ap (λ (x : Tally). x .trues) e, s .trues);
-  falses = omega (arith, ap (λ (x : Tally). x .falses) e, s .falses);
-  uncertain = omega (arith, ap (λ (x : Tally). x .uncertain) e, s .uncertain);
-  givenup = omega (arith, ap (λ (x : Tally). x .givenup) e, s .givenup);
+  trues = omega (arith, ap (λ (x : CellTally). x .trues) e, s .trues);
+  falses = omega (arith, ap (λ (x : CellTally). x .falses) e, s .falses);
+  uncertain = omega (arith, ap (λ (x : CellTally). x .uncertain) e, s .uncertain);
+  givenup = omega (arith, ap (λ (x : CellTally). x .givenup) e, s .givenup);
 }
 
 -- THE ANSWERS
 
-pub seen-outside : (width height : ℕ) (r : PixelRange) (kind : Kind) (l : List ℕ) → pictureReady width height r (length l) ≡ false → someSeen width height r kind l ≡ S.Outside
+pub seen-outside : (width height : ℕ) (r : PixelRange) (kind : CellKind) (l : List ℕ) → pictureReady width height r (length l) ≡ false
+    → someSeen width height r kind l ≡ S.Outside
 unfolding someSeen
 seen-outside width height r kind l e = cond-no (pictureReady width height r (length l)) _ _ e
 
-pub seen-answered : (width height : ℕ) (r : PixelRange) (kind : Kind) (l : List ℕ) (b : Bool) → pictureReady width height r (length l) ≡ true
+pub seen-answered : (width height : ℕ) (r : PixelRange) (kind : CellKind) (l : List ℕ) (b : Bool) → pictureReady width height r (length l) ≡ true
     → b ≡ someOf (ofKind kind) (heldCells width r (meanings l)) → someSeen width height r kind l ≡ seenIf b
 unfolding someSeen
 seen-answered width height r kind l b e f = cond-yes (pictureReady width height r (length l)) _ _ e ∙ ap seenIf (sym f)
 
 -- the answer to the opposite question
-abbrev pub turned : Seen → Seen
-turned S.Yes = S.No
-turned S.No = S.Yes
-turned S.Outside = S.Outside
+abbrev pub opposite : Seen → Seen
+opposite S.Yes = S.No
+opposite S.No = S.Yes
+opposite S.Outside = S.Outside
 
 -- every one is True exactly if none is not
-all-turned : (width height : ℕ) (r : PixelRange) (l : List ℕ) → allTrueSeen width height r l ≡ turned (someSeen width height r K.Unmarked l)
+all-turned : (width height : ℕ) (r : PixelRange) (l : List ℕ) → allTrueSeen width height r l ≡ opposite (someSeen width height r K.Unmarked l)
 unfolding allTrueSeen someSeen
 all-turned width height r l =
     ap (λ (b : Bool). cond (pictureReady width height r (length l)) (seenIf b) S.Outside)
     (every-some isMarked (heldCells width r (meanings l)) ∙ ap not (sym (unmarked-some (heldCells width r (meanings l)))))
     ∙ go (pictureReady width height r (length l)) (someOf (ofKind K.Unmarked) (heldCells width r (meanings l)))
   where
-    go : (a b : Bool) → cond a (seenIf (not b)) S.Outside ≡ turned (cond a (seenIf b) S.Outside)
+    go : (a b : Bool) → cond a (seenIf (not b)) S.Outside ≡ opposite (cond a (seenIf b) S.Outside)
     go true true = refl
     go true false = refl
     go false b = refl
 
-pub all-true : (width height : ℕ) (r : PixelRange) (l : List ℕ) (s a : Seen) → s ≡ someSeen width height r K.Unmarked l → turned s ≡ a
+pub all-true : (width height : ℕ) (r : PixelRange) (l : List ℕ) (s a : Seen) → s ≡ someSeen width height r K.Unmarked l → opposite s ≡ a
     → a ≡ allTrueSeen width height r l
-all-true width height r l s a e f = sym f ∙ ap turned e ∙ sym (all-turned width height r l)
+all-true width height r l s a e f = sym f ∙ ap opposite e ∙ sym (all-turned width height r l)
 
-pub tally-outside : (width height : ℕ) (r : PixelRange) (taken : ℕ) (l : List ℕ) → pictureReady width height r (length l) ≡ false → tallyAnswer width height r taken l ≡ A.Outside
+pub tally-outside : (width height : ℕ) (r : PixelRange) (taken : ℕ) (l : List ℕ) → pictureReady width height r (length l) ≡ false
+    → tallyAnswer width height r taken l ≡ A.Outside
 unfolding tallyAnswer
 tally-outside width height r taken l e = cond-no (pictureReady width height r (length l)) _ _ e
 

@@ -22,8 +22,8 @@ use Rattle.image.proofs.CountLaws.{some-append}
 -- PART BY PART
 
 -- up to the end of a part, and from there
-run-split : (start end : ℕ) (l : List ℕ) → start ≤ end → drop start l ≡ take (end - start) (drop start l) ++ drop end l
-run-split start end l h =
+stretch-split : (start end : ℕ) (l : List ℕ) → start ≤ end → drop start l ≡ take (end - start) (drop start l) ++ drop end l
+stretch-split start end l h =
     let e : start + (end - start) ≡ end = omega arith in
     sym (take-append-drop (end - start) (drop start l))
     ∙ ap (λ (m : List ℕ). take (end - start) (drop start l) ++ m) (drop-drop (end - start) start l ∙ ap (λ (n : ℕ). drop n l) e)
@@ -31,7 +31,7 @@ run-split start end l h =
 some-split : (test : Cell → Bool) (start end : ℕ) (l : List ℕ) → start ≤ end
     → someOf test (meanings (drop start l)) ≡ (someOf test (meanings (take (end - start) (drop start l))) || someOf test (meanings (drop end l)))
 some-split test start end l h =
-    ap (λ (m : List ℕ). someOf test (meanings m)) (run-split start end l h)
+    ap (λ (m : List ℕ). someOf test (meanings m)) (stretch-split start end l h)
     ∙ ap (someOf test) (map-append meaningOf (take (end - start) (drop start l)) (drop end l))
     ∙ some-append test (meanings (take (end - start) (drop start l))) (meanings (drop end l))
 
@@ -45,7 +45,8 @@ pub some-past-part : (test : Cell → Bool) (start end : ℕ) (l : List ℕ) →
 some-past-part test start end l h t = sym (some-split test start end l h ∙ ap (λ (b : Bool). b || someOf test (meanings (drop end l))) t)
 
 -- the last part
-pub some-at-last : (test : Cell → Bool) (start end : ℕ) (l : List ℕ) → end ≡ length l → someOf test (meanings (take (end - start) (drop start l))) ≡ someOf test (meanings (drop start l))
+pub some-at-last : (test : Cell → Bool) (start end : ℕ) (l : List ℕ) → end ≡ length l
+    → someOf test (meanings (take (end - start) (drop start l))) ≡ someOf test (meanings (drop start l))
 some-at-last test start end l e = ap (λ (m : List ℕ). someOf test (meanings m)) (take-all (end - start) (drop start l) (omega (arith, L.length-drop start l)))
 
 -- THE BYTE OF A CELL
@@ -94,10 +95,11 @@ unfolding drawnTo
 draw-start taken [] out = refl
 draw-start taken (n ∷ cells) out = refl
 
-pub draw-turn : (taken i v : ℕ) (cells out now : List ℕ) → i < length cells → i < length out → now ≡ drawnTo taken i cells out → v ≡ shownByte taken (getD cells i 0)
+pub draw-pass : (taken i v : ℕ) (cells out now : List ℕ) → i < length cells → i < length out → now ≡ drawnTo taken i cells out
+    → v ≡ shownByte taken (getD cells i 0)
     → set now i v ≡ drawnTo taken (i + 1) cells out
 unfolding drawnTo
-draw-turn taken i v cells out now h k e f =
+draw-pass taken i v cells out now h k e f =
     let front = map (shownByte taken) (take i cells) in
     let n : length front ≡ i = L.length-map (take i cells) (shownByte taken) ∙ length-take-le i cells (omega arith) in
     ap (λ (l : List ℕ). set l i v) (e ∙ ap (λ (l : List ℕ). front ++ l) (drop-cons out i 0 k))
@@ -109,7 +111,8 @@ draw-turn taken i v cells out now h k e f =
 
 -- a part is written where it stands
 pub draw-part : (taken start end : ℕ) (cells out now ys : List ℕ) → start ≤ end → end ≤ length cells → now ≡ drawnTo taken start cells out
-    → ys ≡ map (shownByte taken) (take (end - start) (drop start cells)) → take start now ++ (ys ++ drop (end - start) (drop start now)) ≡ drawnTo taken end cells out
+    → ys ≡ map (shownByte taken) (take (end - start) (drop start cells))
+    → take start now ++ (ys ++ drop (end - start) (drop start now)) ≡ drawnTo taken end cells out
 unfolding drawnTo
 draw-part taken start end cells out now ys h k e y =
     let f = shownByte taken in

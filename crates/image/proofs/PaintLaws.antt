@@ -1,4 +1,4 @@
--- Laws of painting: cell by cell, list by list, and the turns of the loops. Assumes nothing.
+-- Laws of painting: cell by cell, list by list, and the passes of the loops. Assumes nothing.
 use mathlib.Core.Path.{_≡_, refl, sym, ap, ap₂, _∙_}
 use mathlib.Core.Bool.{Bool, true, false, cond, _&&_, true≢false}
 use mathlib.Core.List.{List, [], _∷_, _++_, map, append-assoc, append-nil}
@@ -12,12 +12,13 @@ use lib.Seq.{take-all, take-suc-set, drop-set-lt, drop-cons}
 use Rattle.base.proofs.Test.{cases, cond-yes, cond-no, and-right}
 use Rattle.image.specs.declared.Op.{Op}
 use Rattle.image.specs.declared.PixelRange.{PixelRange}
-use Rattle.image.specs.Cell.{Cell, cellCode, meaningOf, meanings, codes, doneTo, touched, nameable}
-use Rattle.image.specs.Range.{inRun, holdsCell, inPicture, pictureReady}
+use Rattle.image.specs.Cell.{Cell, cellCode, meaningOf, meanings, codes, doneTo, nameable}
+use Rattle.image.specs.Range.{inStretch, holdsCell, inPicture, pictureReady}
 use Rattle.image.specs.Painting.{mapAt, painted, paintable, paintedCells}
-use Rattle.image.proofs.AtLaws.{length-mapAt, getD-mapAt, mapAt-ext, mapAt-none, mapAt-mapAt, mapAt-run}
+use Rattle.image.specs.RowsComputed.{touched}
+use Rattle.image.proofs.AtLaws.{length-mapAt, getD-mapAt, mapAt-ext, mapAt-none, mapAt-mapAt, mapAt-stretch}
 use Rattle.image.proofs.CellLaws.{code-meaning, touched-meaning}
-use Rattle.image.proofs.RangeLaws.{between-in, between-bounds, between-out, band, run-held, run-past, run-rest, band-none, beyond-not-held}
+use Rattle.image.proofs.RangeLaws.{between-in, between-bounds, between-out, band, stretch-held, stretch-past, stretch-rest, band-none, beyond-not-held}
 
 -- CELL BY CELL
 
@@ -40,7 +41,8 @@ pub painted-outside : (width : ℕ) (r : PixelRange) (op : Op) (l : List Cell) (
 painted-outside width r op l i d h t = painted-cell width r op l i d h ∙ cond-no (holdsCell width r i) _ _ t
 
 -- cells beyond the pixels keep their value
-pub painted-beyond : (width height : ℕ) (r : PixelRange) (op : Op) (l : List Cell) (i : ℕ) (d : Cell) → inPicture width height r ≡ true → i < length l → width * height ≤ i
+pub painted-beyond : (width height : ℕ) (r : PixelRange) (op : Op) (l : List Cell) (i : ℕ) (d : Cell) → inPicture width height r ≡ true
+    → i < length l → width * height ≤ i
     → getD (painted width r op l) i d ≡ getD l i d
 painted-beyond width height r op l i d t h k = painted-outside width r op l i d h (beyond-not-held width height r i t k)
 
@@ -56,7 +58,8 @@ meant t op i (n ∷ l) h = ap₂ _∷_ (go (t i)) (meant t op (suc i) l h)
     go false = ap meaningOf (code-meaning n)
 
 -- it is done by the two tests
-pub paintable-as : (width height : ℕ) (r : PixelRange) (op : Op) (n : ℕ) (a b : Bool) → pictureReady width height r n ≡ a → nameable op ≡ b → paintable width height r op n ≡ (a && b)
+pub paintable-as : (width height : ℕ) (r : PixelRange) (op : Op) (n : ℕ) (a b : Bool) → pictureReady width height r n ≡ a → nameable op ≡ b
+    → paintable width height r op n ≡ (a && b)
 unfolding paintable
 paintable-as width height r op n a b e f = ap₂ (λ (s t : Bool). s && t) e f
 
@@ -69,7 +72,8 @@ painted-meanings width height r op l t =
     ∙ meant (holdsCell width r) op 0 l (and-right (pictureReady width height r (length l)) (nameable op) t)
 
 -- and else they are as they were
-pub painted-not : (width height : ℕ) (r : PixelRange) (op : Op) (l : List ℕ) → paintable width height r op (length l) ≡ false → paintedCells width height r op l ≡ l
+pub painted-not : (width height : ℕ) (r : PixelRange) (op : Op) (l : List ℕ) → paintable width height r op (length l) ≡ false
+    → paintedCells width height r op l ≡ l
 unfolding paintedCells
 painted-not width height r op l t = cond-no (paintable width height r op (length l)) _ _ t
 
@@ -113,18 +117,18 @@ paint-end width left right row bottom op l e =
     (λ j n p q. cond-no (holdsCell width (band left right bottom bottom) j) _ _ (band-none width left right bottom j)) ∙ mapAt-none 0 l)
 
 -- a row, and then the rows after it
-pub paint-turn : (width left right row bottom start end : ℕ) (op : Op) (l ys : List ℕ) → left ≤ right → right ≤ width → row < bottom
+pub paint-pass : (width left right row bottom start end : ℕ) (op : Op) (l ys : List ℕ) → left ≤ right → right ≤ width → row < bottom
     → start ≡ row * width + left → end ≡ row * width + right → end ≤ length l → ys ≡ map (touched op) (take (end - start) (drop start l))
     → paintFrom width left right (row + 1) bottom op (take start l ++ (ys ++ drop (end - start) (drop start l))) ≡ paintFrom width left right row bottom op l
 unfolding paintFrom
-paint-turn width left right row bottom start end op l ys across fits more s e long y =
+paint-pass width left right row bottom start end op l ys across fits more s e long y =
     ap (λ (m : List ℕ). mapAt after 0 (take start l ++ (m ++ drop (end - start) (drop start l)))) y
-    ∙ ap (mapAt after 0) (sym (mapAt-run run (touched op) start (end - start) l (omega arith)
-    (λ j n p q. cond-yes (inRun start end j) _ _ (between-in start end j p (omega arith)))
-    (λ j n p. cond-no (inRun start end j) _ _ (between-out start end j (λ a b. omega arith)))
-    (λ j n p. cond-no (inRun start end j) _ _ (between-out start end j (λ a b. omega arith)))))
-    ∙ mapAt-mapAt after run 0 l
-    ∙ mapAt-ext (λ j n. after j (run j n)) before 0 l (λ j n p q. cases (inRun start end j) (on j n) (off j n))
+    ∙ ap (mapAt after 0) (sym (mapAt-stretch stretch (touched op) start (end - start) l (omega arith)
+    (λ j n p q. cond-yes (inStretch start end j) _ _ (between-in start end j p (omega arith)))
+    (λ j n p. cond-no (inStretch start end j) _ _ (between-out start end j (λ a b. omega arith)))
+    (λ j n p. cond-no (inStretch start end j) _ _ (between-out start end j (λ a b. omega arith)))))
+    ∙ mapAt-mapAt after stretch 0 l
+    ∙ mapAt-ext (λ j n. after j (stretch j n)) before 0 l (λ j n p q. cases (inStretch start end j) (on j n) (off j n))
   where
     after : ℕ → ℕ → ℕ
     after j n = cond (holdsCell width (band left right (row + 1) bottom) j) (touched op n) n
@@ -132,21 +136,21 @@ paint-turn width left right row bottom start end op l ys across fits more s e lo
     before : ℕ → ℕ → ℕ
     before j n = cond (holdsCell width (band left right row bottom) j) (touched op n) n
 
-    run : ℕ → ℕ → ℕ
-    run j n = cond (inRun start end j) (touched op n) n
+    stretch : ℕ → ℕ → ℕ
+    stretch j n = cond (inStretch start end j) (touched op n) n
 
-    on : (j n : ℕ) → inRun start end j ≡ true → after j (run j n) ≡ before j n
+    on : (j n : ℕ) → inStretch start end j ≡ true → after j (stretch j n) ≡ before j n
     on j n t =
         let b = between-bounds start end j t in
-        cond-no (holdsCell width (band left right (row + 1) bottom) j) _ _ (run-past width left right row bottom fits more j (omega (arith, b .1)))
-        ∙ cond-yes (inRun start end j) _ _ t
-        ∙ sym (cond-yes (holdsCell width (band left right row bottom) j) _ _ (run-held width left right row bottom fits more j (omega (arith, b .0)) (omega (arith, b .1))))
+        cond-no (holdsCell width (band left right (row + 1) bottom) j) _ _ (stretch-past width left right row bottom fits more j (omega (arith, b .1)))
+        ∙ cond-yes (inStretch start end j) _ _ t
+        ∙ sym (cond-yes (holdsCell width (band left right row bottom) j) _ _ (stretch-held width left right row bottom fits more j (omega (arith, b .0)) (omega (arith, b .1))))
 
-    off : (j n : ℕ) → inRun start end j ≡ false → after j (run j n) ≡ before j n
+    off : (j n : ℕ) → inStretch start end j ≡ false → after j (stretch j n) ≡ before j n
     off j n t =
-        ap (after j) (cond-no (inRun start end j) _ _ t)
+        ap (after j) (cond-no (inStretch start end j) _ _ t)
         ∙ ap (λ (b : Bool). cond b (touched op n) n)
-        (sym (run-rest width left right row bottom fits more j (λ p q. true≢false (sym (between-in start end j (omega arith) (omega arith)) ∙ t))))
+        (sym (stretch-rest width left right row bottom fits more j (λ p q. true≢false (sym (between-in start end j (omega arith) (omega arith)) ∙ t))))
 
 -- TURNS OF A ROW'S LOOP
 
@@ -162,9 +166,9 @@ pub row-end : (g : ℕ → ℕ) (i : ℕ) (row : List ℕ) → length row ≤ i 
 unfolding rowFrom
 row-end g i row h = rw (take-all i row h, drop-of-length-le row h) (append-nil row)
 
-pub row-turn : (g : ℕ → ℕ) (i v : ℕ) (row : List ℕ) → i < length row → v ≡ g (getD row i 0) → rowFrom g (i + 1) (set row i v) ≡ rowFrom g i row
+pub row-pass : (g : ℕ → ℕ) (i v : ℕ) (row : List ℕ) → i < length row → v ≡ g (getD row i 0) → rowFrom g (i + 1) (set row i v) ≡ rowFrom g i row
 unfolding rowFrom
-row-turn g i v row h e =
+row-pass g i v row h e =
     rw (add-one, take-suc-set row i v h, drop-set-lt (suc i) row i v (omega arith))
     (append-assoc (take i row) (v ∷ []) (map g (drop (suc i) row))
     ∙ ap (λ (m : List ℕ). take i row ++ m) (ap (λ (x : ℕ). x ∷ map g (drop (suc i) row)) e ∙ sym (ap (map g) (drop-cons row i 0 h))))

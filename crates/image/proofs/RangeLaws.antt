@@ -11,10 +11,12 @@ use lib.Pow.{pow-pos, pow-mono, shl-exact}
 use borrow.Author.Tests.{ltb-true, leb-true, leb-false, lt-ltb, le-leb}
 use Rattle.base.proofs.Test.{cases, and-left, and-right, and-both, both-ways, or-neither}
 use Rattle.coordinate.specs.declared.Coordinate.{Coordinate}
-use Rattle.coordinate.specs.Axis.{pixel, covers1}
+use Rattle.coordinate.specs.Axis.{pixel}
+use Rattle.coordinate.proofs.Covering.{covers1}
 use Rattle.coordinate.proofs.PixelLaws.{pixel-big, pixel-small}
 use Rattle.image.specs.declared.PixelRange.{PixelRange}
-use Rattle.image.specs.Range.{cellIndex, inRun, holdsCell, inPicture, pictureReady, ReadyRows, wholePicture, firstPixel, pastPixel, rectangleOf}
+use Rattle.image.specs.Range.{cellIndex, inStretch, holdsCell, inPicture, pictureReady, wholePicture, firstPixel, pastPixel, rectangleOf}
+use Rattle.image.specs.RowsComputed.{ReadyRows}
 
 -- the product of two sides fits a word
 pub product-fits : (a b : ℕ) → a < 2 ^ 32 → b < 2 ^ 32 → a * b < 2 ^ 64
@@ -22,14 +24,14 @@ product-fits a b h k = omega (arith, mul-le-mul-right {m = a} {n = 2 ^ 32 - 1} b
 
 -- TESTS AND BOUNDS
 
-pub between-in : (a b i : ℕ) → a ≤ i → i < b → inRun a b i ≡ true
+pub between-in : (a b i : ℕ) → a ≤ i → i < b → inStretch a b i ≡ true
 between-in a b i h k = and-both (leb a i) (ltb i b) (le-leb a i h) (lt-ltb i b k)
 
-pub between-bounds : (a b i : ℕ) → inRun a b i ≡ true → (a ≤ i) × (i < b)
+pub between-bounds : (a b i : ℕ) → inStretch a b i ≡ true → (a ≤ i) × (i < b)
 between-bounds a b i t = (leb-true a i (and-left (leb a i) (ltb i b) t), ltb-true i b (and-right (leb a i) (ltb i b) t))
 
-pub between-out : (a b i : ℕ) → (a ≤ i → i < b → ⊥) → inRun a b i ≡ false
-between-out a b i h = cases (inRun a b i) (λ t. absurd (let c = between-bounds a b i t in h (c .0) (c .1))) (λ t. t)
+pub between-out : (a b i : ℕ) → (a ≤ i → i < b → ⊥) → inStretch a b i ≡ false
+between-out a b i h = cases (inStretch a b i) (λ t. absurd (let c = between-bounds a b i t in h (c .0) (c .1))) (λ t. t)
 
 -- a held cell, as four bounds
 pub record Held (width : ℕ) (r : PixelRange) (i : ℕ) : Type 0 where
@@ -41,8 +43,8 @@ pub record Held (width : ℕ) (r : PixelRange) (i : ℕ) : Type 0 where
 pub held : (width : ℕ) (r : PixelRange) (i : ℕ) → holdsCell width r i ≡ true → Held width r i
 unfolding holdsCell
 held width r i t =
-    let x = inRun (r .left) (r .right) (i % width) in
-    let y = inRun (r .top) (r .bottom) (i / width) in
+    let x = inStretch (r .left) (r .right) (i % width) in
+    let y = inStretch (r .top) (r .bottom) (i / width) in
     let a = between-bounds (r .left) (r .right) (i % width) (and-left x y t) in
     let b = between-bounds (r .top) (r .bottom) (i / width) (and-right x y t) in
     record { left = a .0; right = a .1; top = b .0; bottom = b .1 }
@@ -50,7 +52,7 @@ held width r i t =
 pub holding : (width : ℕ) (r : PixelRange) (i : ℕ) → Held width r i → holdsCell width r i ≡ true
 unfolding holdsCell
 holding width r i h =
-    and-both (inRun (r .left) (r .right) (i % width)) (inRun (r .top) (r .bottom) (i / width))
+    and-both (inStretch (r .left) (r .right) (i % width)) (inStretch (r .top) (r .bottom) (i / width))
     (between-in (r .left) (r .right) (i % width) (h .left) (h .right))
     (between-in (r .top) (r .bottom) (i / width) (h .top) (h .bottom))
 
@@ -114,7 +116,7 @@ pub row-fits : (width : ℕ) (r : PixelRange) (n row : ℕ) → ReadyRows width 
 row-fits width r n row h k =
     omega (arith, h .right, h .enough, mul-le-mul-right {m = row + 1} {n = r .bottom} width (omega arith), add-mul row 1 width)
 
--- a place on the run of a row is on that row
+-- a place on the stretch of a row is on that row
 on-row : (width left right row i : ℕ) → right ≤ width → row * width + left ≤ i → i < row * width + right
     → (i / width ≡ row) × (left ≤ i % width) × (i % width < right)
 on-row width left right row i w h k =
@@ -123,21 +125,21 @@ on-row width left right row i w h k =
     (q, omega arith, omega arith)
 
 -- and back
-off-run : (width left right row i : ℕ) → i / width ≡ row → left ≤ i % width → i % width < right
+off-stretch : (width left right row i : ℕ) → i / width ≡ row → left ≤ i % width → i % width < right
     → (row * width + left ≤ i) × (i < row * width + right)
-off-run width left right row i q h k =
+off-stretch width left right row i q h k =
     let d : row * width + i % width ≡ i = ap (λ (n : ℕ). n * width + i % width) (sym q) ∙ div-add-mod' i width in
     (omega arith, omega arith)
 
 module _ (width left right row bottom : ℕ) (fits : right ≤ width) (more : row < bottom) where
-  -- the first row's run is held, and not by the rows after it
-  pub run-held : (i : ℕ) → row * width + left ≤ i → i < row * width + right → holdsCell width (band left right row bottom) i ≡ true
-  run-held i h k =
+  -- the first row's stretch is held, and not by the rows after it
+  pub stretch-held : (i : ℕ) → row * width + left ≤ i → i < row * width + right → holdsCell width (band left right row bottom) i ≡ true
+  stretch-held i h k =
       let o = on-row width left right row i fits h k in
       holding width (band left right row bottom) i record { left = o .1; right = o .2; top = omega (arith, o .0); bottom = omega (arith, o .0) }
 
-  pub run-past : (i : ℕ) → i < row * width + right → holdsCell width (band left right (row + 1) bottom) i ≡ false
-  run-past i k =
+  pub stretch-past : (i : ℕ) → i < row * width + right → holdsCell width (band left right (row + 1) bottom) i ≡ false
+  stretch-past i k =
       not-held width (band left right (row + 1) bottom) i
       (λ c.
       let d = div-add-mod' i width in
@@ -145,25 +147,25 @@ module _ (width left right row bottom : ℕ) (fits : right ≤ width) (more : ro
       omega (arith, add-mul row 1 width))
 
   -- nothing before it is held
-  pub run-first : (i : ℕ) → i < row * width + left → holdsCell width (band left right row bottom) i ≡ false
-  run-first i k =
+  pub stretch-first : (i : ℕ) → i < row * width + left → holdsCell width (band left right row bottom) i ≡ false
+  stretch-first i k =
       not-held width (band left right row bottom) i
       (λ c.
       let d = div-add-mod' i width in
       let m = mul-le-mul-right {m = row} {n = i / width} width (c .top) in
       omega (arith, c .left))
 
-  -- what is not on the run is held exactly if the rows after it hold it
-  pub run-rest : (i : ℕ) → (row * width + left ≤ i → i < row * width + right → ⊥)
+  -- what is not on the stretch is held exactly if the rows after it hold it
+  pub stretch-rest : (i : ℕ) → (row * width + left ≤ i → i < row * width + right → ⊥)
       → holdsCell width (band left right row bottom) i ≡ holdsCell width (band left right (row + 1) bottom) i
-  run-rest i off =
+  stretch-rest i off =
       both-ways (holdsCell width (band left right row bottom) i) (holdsCell width (band left right (row + 1) bottom) i)
       (λ t.
       let c = held width (band left right row bottom) i t in
       holding width (band left right (row + 1) bottom) i record {
         left = c .left;
         right = c .right;
-        top = elim (decLt row (i / width)) [ yes k ↦ omega arith | no k ↦ absurd (let o = off-run width left right row i (omega (arith, c .top)) (c .left) (c .right) in off (o .0) (o .1)) ];
+        top = elim (decLt row (i / width)) [ yes k ↦ omega arith | no k ↦ absurd (let o = off-stretch width left right row i (omega (arith, c .top)) (c .left) (c .right) in off (o .0) (o .1)) ];
         bottom = c .bottom;
       })
       (λ t.
@@ -277,7 +279,8 @@ pub past-clipped : (side p w : ℕ) → min (min p side + w) side ≡ min (p + w
 past-clipped side p w = omega arith
 
 -- the rectangle, from the four bounds
-pub rectangle-made : (x y : Coordinate) (width height left right low high : ℕ) → left ≡ firstPixel width (x .rank) (x .index) → right ≡ min (left + 2 ^ (x .rank - 48)) width
+pub rectangle-made : (x y : Coordinate) (width height left right low high : ℕ) → left ≡ firstPixel width (x .rank) (x .index)
+    → right ≡ min (left + 2 ^ (x .rank - 48)) width
     → low ≡ firstPixel height (y .rank) (y .index) → high ≡ min (low + 2 ^ (y .rank - 48)) height
     → record { left = left; right = right; top = height - high; bottom = height - low } ≡ rectangleOf x y width height
 unfolding rectangleOf
@@ -287,16 +290,16 @@ rectangle-made x y width height left right low high a b c d =
     rw (a, e, c, f)
 
 -- along one axis, clipping keeps what lies inside the side
-clip : (side p f l : ℕ) → p < side → inRun (min f side) (min l side) p ≡ inRun f l p
+clip : (side p f l : ℕ) → p < side → inStretch (min f side) (min l side) p ≡ inStretch f l p
 clip side p f l h =
-    both-ways (inRun (min f side) (min l side) p) (inRun f l p)
+    both-ways (inStretch (min f side) (min l side) p) (inStretch f l p)
     (λ t. (let b = between-bounds (min f side) (min l side) p t in between-in f l p (omega (arith, b .0)) (omega (arith, b .1))))
     (λ t. (let b = between-bounds f l p t in between-in (min f side) (min l side) p (omega (arith, b .0)) (omega (arith, b .1))))
 
 -- and counting it from the other end keeps it too
-turn : (side p f l : ℕ) → p < side → inRun (side - min l side) (side - min f side) (side - 1 - p) ≡ inRun f l p
+turn : (side p f l : ℕ) → p < side → inStretch (side - min l side) (side - min f side) (side - 1 - p) ≡ inStretch f l p
 turn side p f l h =
-    both-ways (inRun (side - min l side) (side - min f side) (side - 1 - p)) (inRun f l p)
+    both-ways (inStretch (side - min l side) (side - min f side) (side - 1 - p)) (inStretch f l p)
     (λ t. (let b = between-bounds (side - min l side) (side - min f side) (side - 1 - p) t in between-in f l p (omega (arith, b .1)) (omega (arith, b .0))))
     (λ t. (let b = between-bounds f l p t in between-in (side - min l side) (side - min f side) (side - 1 - p) (omega (arith, b .1)) (omega (arith, b .0))))
 
@@ -306,7 +309,7 @@ pub rectangle-covers : (x y : Coordinate) (width height px py : ℕ) → px < wi
 unfolding holdsCell rectangleOf covers1
 rectangle-covers x y width height px py h k =
     ap₂ (λ (s t : Bool). s && t)
-    (ap (inRun (firstPixel width (x .rank) (x .index)) (pastPixel width (x .rank) (x .index))) (cell-column width height px py h)
+    (ap (inStretch (firstPixel width (x .rank) (x .index)) (pastPixel width (x .rank) (x .index))) (cell-column width height px py h)
     ∙ clip width px (pixel (x .rank) (x .index)) (pixel (x .rank) (x .index) + 2 ^ (x .rank - 48)) h)
-    (ap (inRun (height - pastPixel height (y .rank) (y .index)) (height - firstPixel height (y .rank) (y .index))) (cell-row width height px py h)
+    (ap (inStretch (height - pastPixel height (y .rank) (y .index)) (height - firstPixel height (y .rank) (y .index))) (cell-row width height px py h)
     ∙ turn height py (pixel (y .rank) (y .index)) (pixel (y .rank) (y .index) + 2 ^ (y .rank - 48)) k)

@@ -16,15 +16,15 @@
 --                  └──────────────────────────────────────► Marked
 use mathlib.Core.Bool.{Bool, true, false, not, cond}
 use mathlib.Core.List.{List, [], _∷_, map}
-use Prim.Native.Nat.{ℕ, _+_, _^_, _<_}
+use Prim.Native.Nat.{ℕ, _+_}
 use lib.Dec.{leb, ltb, eqb}
 use Rattle.image.specs.declared.Op.{Op}
 use Rattle.image.specs.declared.Op.the-variants as O
-use Rattle.image.specs.declared.Kind.{Kind}
-use Rattle.image.specs.declared.Kind.the-variants as K
+use Rattle.image.specs.declared.CellKind.{CellKind}
+use Rattle.image.specs.declared.CellKind.the-variants as K
 use Rattle.image.specs.declared.Reading.{Reading}
 use Rattle.image.specs.declared.Reading.the-variants as R
-use Rattle.image.specs.declared.Tally.{Tally}
+use Rattle.image.specs.declared.CellTally.{CellTally}
 
 -- what stands in a cell: the table's four meanings
 pub data Cell : Type 0 where
@@ -56,13 +56,6 @@ meaningOf n = cond (ltb n trueCode) (Named n) (cond (eqb n trueCode) Marked (con
 abbrev pub isNumber : ℕ → Bool
 isNumber n = ltb n trueCode
 
--- a meaning that a code can have
-unfoldable pub hasCode : Cell → Bool
-hasCode (Named n) = isNumber n
-hasCode Marked = true
-hasCode GivenUp = true
-hasCode (Other n) = ltb givenUpCode n
-
 -- the meanings of lent cells
 abbrev pub meanings : List ℕ → List Cell
 meanings l = map meaningOf l
@@ -82,10 +75,6 @@ doneTo (O.Name from to) (Other n) = Other n
 doneTo O.GiveUp c = GivenUp
 doneTo (O.Fill to) c = Named to
 
--- the same on a code
-abbrev pub touched : Op → ℕ → ℕ
-touched op n = cellCode (doneTo op (meaningOf n))
-
 -- what a block is to be named is a block's number
 unfoldable pub nameable : Op → Bool
 nameable O.Mark = true
@@ -93,8 +82,8 @@ nameable (O.Name from to) = isNumber to
 nameable O.GiveUp = true
 nameable (O.Fill to) = isNumber to
 
--- what a cell reads: the block that it names has been taken, and so it is False, or is still to come; what is given up stays open, and
--- damage settles nothing
+-- what a cell reads: the block that it names has been taken, and so it is False, or is still to come; what is given up stays Uncertain, and
+-- damage decides nothing
 unfoldable pub reading : ℕ → Cell → Reading
 reading taken (Named n) = cond (leb taken n) R.Uncertain R.False
 reading taken Marked = R.True
@@ -139,9 +128,9 @@ isDamaged GivenUp = false
 isDamaged (Other n) = true
 
 -- the cells that are looked for: those that are not True, the given-up ones, the damaged ones
-unfoldable pub ofKind : Kind → Cell → Bool
+unfoldable pub ofKind : CellKind → Cell → Bool
 ofKind K.Unmarked c = not (isMarked c)
-ofKind K.Abandoned c = isGivenUp c
+ofKind K.GivenUp c = isGivenUp c
 ofKind K.Damaged c = isDamaged c
 
 -- how many cells of a list pass a test
@@ -168,26 +157,10 @@ isUncertain R.Uncertain = true
 isUncertain R.True = false
 
 -- cells by what they read, and those that are given up, which read Uncertain as well
-unfoldable pub tallied : ℕ → List Cell → Tally
+unfoldable pub tallied : ℕ → List Cell → CellTally
 tallied taken l = record {
   trues = countOf (λ c. isTrue (reading taken c)) l;
   falses = countOf (λ c. isFalse (reading taken c)) l;
   uncertain = countOf (λ c. isUncertain (reading taken c)) l;
   givenup = countOf isGivenUp l;
 }
-
--- two counts together
-abbrev pub tallySum : Tally → Tally → Tally
-tallySum t u = record {
-  trues = t .trues + u .trues;
-  falses = t .falses + u .falses;
-  uncertain = t .uncertain + u .uncertain;
-  givenup = t .givenup + u .givenup;
-}
-
--- counts that can be added
-pub record SmallTally (t : Tally) : Type 0 where
-  pub trues : t .trues < 2 ^ 62
-  pub falses : t .falses < 2 ^ 62
-  pub uncertain : t .uncertain < 2 ^ 62
-  pub givenup : t .givenup < 2 ^ 62

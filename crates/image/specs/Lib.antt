@@ -2,3 +2,4 @@
 pub mod Cell
 pub mod Range
 pub mod Painting
+pub mod RowsComputed

@@ -6,12 +6,12 @@ use Prim.Native.Nat.{ℕ, suc}
 use lib.Dec.{eqb}
 use lib.ListN.{length, getD}
 use Rattle.image.specs.declared.Op.{Op}
-use Rattle.image.specs.declared.Kind.{Kind}
+use Rattle.image.specs.declared.CellKind.{CellKind}
 use Rattle.image.specs.declared.PixelRange.{PixelRange}
 use Rattle.image.specs.declared.Seen.{Seen}
 use Rattle.image.specs.declared.Seen.the-variants as S
-use Rattle.image.specs.declared.TallyAnswer.{TallyAnswer}
-use Rattle.image.specs.declared.TallyAnswer.the-variants as A
+use Rattle.image.specs.declared.CellTallyAnswer.{CellTallyAnswer}
+use Rattle.image.specs.declared.CellTallyAnswer.the-variants as A
 use Rattle.image.specs.Cell.{Cell, Named, meanings, codes, doneTo, nameable, isMarked, ofKind, tallied, shownByte}
 use Rattle.image.specs.Range.{cellIndex, holdsCell, pictureReady}
 
@@ -61,7 +61,7 @@ seenIf true = S.Yes
 seenIf false = S.No
 
 -- does the rectangle hold a cell of a kind?
-unfoldable pub someSeen : ℕ → ℕ → PixelRange → Kind → List ℕ → Seen
+unfoldable pub someSeen : ℕ → ℕ → PixelRange → CellKind → List ℕ → Seen
 someSeen width height r kind l =
     cond (pictureReady width height r (length l)) (seenIf (someOf (ofKind kind) (heldCells width r (meanings l)))) S.Outside
 
@@ -71,7 +71,7 @@ allTrueSeen width height r l =
     cond (pictureReady width height r (length l)) (seenIf (everyOf isMarked (heldCells width r (meanings l)))) S.Outside
 
 -- the counts of the rectangle
-unfoldable pub tallyAnswer : ℕ → ℕ → PixelRange → ℕ → List ℕ → TallyAnswer
+unfoldable pub tallyAnswer : ℕ → ℕ → PixelRange → ℕ → List ℕ → CellTallyAnswer
 tallyAnswer width height r taken l =
     cond (pictureReady width height r (length l)) (A.Of (tallied taken (heldCells width r (meanings l)))) A.Outside
 

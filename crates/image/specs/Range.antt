@@ -1,6 +1,6 @@
 -- Which cells a rectangle holds and which a block covers: document 01, "Picture and step". Rows count from the top, y from the bottom.
 use mathlib.Core.Bool.{Bool, _&&_}
-use Prim.Native.Nat.{ℕ, _+_, _-_, _*_, _/_, _%_, _^_, _≤_, min}
+use Prim.Native.Nat.{ℕ, _+_, _-_, _*_, _/_, _%_, _^_, min}
 use lib.Dec.{leb, ltb}
 use Rattle.coordinate.specs.declared.Coordinate.{Coordinate}
 use Rattle.coordinate.specs.Axis.{pixel}
@@ -11,12 +11,12 @@ abbrev pub cellIndex : ℕ → ℕ → ℕ → ℕ → ℕ
 cellIndex width height x y = (height - 1 - y) * width + x
 
 -- from a on, below b
-abbrev pub inRun : ℕ → ℕ → ℕ → Bool
-inRun a b i = leb a i && ltb i b
+abbrev pub inStretch : ℕ → ℕ → ℕ → Bool
+inStretch a b i = leb a i && ltb i b
 
 -- does a rectangle hold the i-th cell, which stands in column i % width of row i / width?
 unfoldable pub holdsCell : ℕ → PixelRange → ℕ → Bool
-holdsCell width r i = inRun (r .left) (r .right) (i % width) && inRun (r .top) (r .bottom) (i / width)
+holdsCell width r i = inStretch (r .left) (r .right) (i % width) && inStretch (r .top) (r .bottom) (i / width)
 
 -- the rectangle lies in the picture
 unfoldable pub inPicture : ℕ → ℕ → PixelRange → Bool
@@ -26,18 +26,11 @@ inPicture width height r = leb (r .left) (r .right) && leb (r .right) width && l
 unfoldable pub pictureReady : ℕ → ℕ → PixelRange → ℕ → Bool
 pictureReady width height r n = inPicture width height r && leb (width * height) n
 
--- what that says of the rows
-pub record ReadyRows (width : ℕ) (r : PixelRange) (n : ℕ) : Type 0 where
-  pub across : r .left ≤ r .right
-  pub right : r .right ≤ width
-  pub down : r .top ≤ r .bottom
-  pub enough : r .bottom * width ≤ n
-
 -- all pixels
 abbrev pub wholePicture : ℕ → ℕ → PixelRange
 wholePicture width height = record { left = 0; right = width; top = 0; bottom = height }
 
--- the first pixel that a coordinate covers along a side, clipped to the side: the lower bound of `covers1`
+-- the first pixel that a coordinate covers along a side, clipped to the side
 abbrev pub firstPixel : ℕ → ℕ → ℕ → ℕ
 firstPixel side rank i = min (pixel rank i) side
 
@@ -45,7 +38,7 @@ firstPixel side rank i = min (pixel rank i) side
 abbrev pub pastPixel : ℕ → ℕ → ℕ → ℕ
 pastPixel side rank i = min (pixel rank i + 2 ^ (rank - 48)) side
 
--- what a block covers: a square of pixels, as far as the picture goes; from level 0 down one pixel. y is turned over to rows
+-- what a block covers: a square of pixels, as far as the picture goes; from level 0 down one pixel. y is opposite over to rows
 unfoldable pub rectangleOf : Coordinate → Coordinate → ℕ → ℕ → PixelRange
 rectangleOf x y width height = record {
   left = firstPixel width (x .rank) (x .index);

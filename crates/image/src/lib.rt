@@ -1,7 +1,7 @@
 // The picture's cells: what a cell means and reads, which cells a block covers, and what is done to a rectangle of them.
 // Document 01, "Picture and step": rows from the top, y from the bottom. The numbers that stand for True and given up appear in this crate only.
 // What takes a rectangle takes any, and any cells: where the rectangle leaves the picture, or the cells are fewer than the pixels, it changes
-// nothing and says so, and cells beyond the pixels are never read or written. `is_any` and `draw` take no rectangle but all cells that are lent.
+// nothing and says so, and cells beyond the pixels are never read or written. `cells_hold` and `draw` take no rectangle but all cells that are lent.
 ghost use mathlib.Core.Path.{_≡_};
 ghost use Prim.Native.Nat.{_+_, _-_, _^_, _≤_, _<_, min};
 ghost use lib.Dec.{eqb};
@@ -11,9 +11,10 @@ ghost use Rattle.image.specs.Range.{firstPixel, rectangleOf, wholePictur
 ghost use Rattle.image.specs.Painting.{paintable, paintedCells, someOf, someSeen, allTrueSeen, tallyAnswer, drawnBytes};
 
 mod rows;
-mod runs;
+mod stretches;
 
 use coordinate::Coordinate;
+use coordinate::PIXEL_RANK;
 
 // The code of a cell that is True; smaller numbers name blocks.
 const TRUE: u64 = 4294967296;
@@ -43,11 +44,11 @@ pub enum Op {
 }
 
 // What is looked for in a rectangle.
-pub enum Kind {
+pub enum CellKind {
     // Anything but True.
     Unmarked,
     // Given up.
-    Abandoned,
+    GivenUp,
     // Neither a block's number, nor True, nor given up.
     Damaged,
 }
@@ -70,7 +71,7 @@ pub struct PixelRange {
 
 // How many cells read True, False and Uncertain, and how many are given up (these read Uncertain too).
 #[repr(C)]
-pub struct Tally {
+pub struct CellTally {
     pub trues: u64,
     pub falses: u64,
     pub uncertain: u64,
@@ -78,8 +79,8 @@ pub struct Tally {
 }
 
 // The counts of a rectangle.
-pub enum TallyAnswer {
-    Of(Tally),
+pub enum CellTallyAnswer {
+    Of(CellTally),
     Outside,
 }
 
@@ -150,8 +151,8 @@ fn first_pixel(index: u64, rank: u8, side: u64) -> u64
     requires { ⌜ side < 4294967296 ⌝ }
     ensures { λ r. ⌜ r ≡ firstPixel side rank index ⌝ }
 {
-    if rank < 48 {
-        return smaller(index >> (48 - rank), side);
+    if rank < PIXEL_RANK {
+        return smaller(index >> (PIXEL_RANK - rank), side);
     }
     if index == 0 {
         return 0;
@@ -159,7 +160,7 @@ fn first_pixel(index: u64, rank: u8, side: u64) -> u64
     if (4294967296 <= index) | (80 <= rank) {
         return side;
     }
-    smaller(index << (rank - 48), side)
+    smaller(index << (rank - PIXEL_RANK), side)
 }
 
 // The pixel after the last that a coordinate covers, or the side's end.
@@ -167,13 +168,13 @@ fn past_pixel(first: u64, rank: u8, side: u64) -> u64
     requires { ⌜ (side < 4294967296) × (first ≤ side) ⌝ }
     ensures { λ r. ⌜ r ≡ min (first + 2 ^ (rank - 48)) side ⌝ }
 {
-    if rank <= 48 {
+    if rank <= PIXEL_RANK {
         return smaller(first + 1, side);
     }
     if 80 <= rank {
         return side;
     }
-    smaller(first + (1 << (rank - 48)), side)
+    smaller(first + (1 << (rank - PIXEL_RANK)), side)
 }
 
 // Whether the rectangle lies in the picture and every pixel has a cell.
@@ -218,7 +219,7 @@ pub fn paint(cells: &mut [u64], width: u32, height: u32, r: PixelRange, op: Op) 
 pub fn are_all_true(cells: &[u64], width: u32, height: u32, r: PixelRange) -> Seen
     ensures { λ s. ⌜ s ≡ allTrueSeen width height r (now (cells .entry)) ⌝ }
 {
-    match is_one(cells, width, height, r, Kind::Unmarked) {
+    match rectangle_holds(cells, width, height, r, CellKind::Unmarked) {
         Seen::Yes => Seen::No,
         Seen::No => Seen::Yes,
         Seen::Outside => Seen::Outside,
@@ -226,7 +227,13 @@ pub fn are_all_true(cells: &[u64], width: u32, height: u32, r: PixelRange) -> Se
 }
 
 // Whether a cell of the rectangle is of a kind.
-pub fn is_one(cells: &[u64], width: u32, height: u32, r: PixelRange, kind: Kind) -> Seen
+pub fn rectangle_holds(
+    cells: &[u64],
+    width: u32,
+    height: u32,
+    r: PixelRange,
+    kind: CellKind,
+) -> Seen
     ensures { λ s. ⌜ s ≡ someSeen width height r kind (now (cells .entry)) ⌝ }
 {
     if !is_ready(width, height, r, cells.len()) {
@@ -240,21 +247,21 @@ pub fn is_one(cells: &[u64], width: u32, height: u32, r: PixelRange, kind: Kind)
 }
 
 // The counts of the rectangle when so many blocks have been taken.
-pub fn count(cells: &[u64], width: u32, height: u32, r: PixelRange, taken: u64) -> TallyAnswer
+pub fn count(cells: &[u64], width: u32, height: u32, r: PixelRange, taken: u64) -> CellTallyAnswer
     ensures { λ a. ⌜ a ≡ tallyAnswer width height r taken (now (cells .entry)) ⌝ }
 {
     if is_ready(width, height, r, cells.len()) {
         let tally = rows::count_rows(cells, width as usize, r, taken);
-        return TallyAnswer::Of(tally);
+        return CellTallyAnswer::Of(tally);
     }
-    TallyAnswer::Outside
+    CellTallyAnswer::Outside
 }
 
 // Whether one of the cells is of a kind.
-pub fn is_any(cells: &[u64], kind: Kind) -> bool
+pub fn cells_hold(cells: &[u64], kind: CellKind) -> bool
     ensures { λ b. ⌜ b ≡ someOf (ofKind kind) (meanings (now (cells .entry))) ⌝ }
 {
-    runs::find_in_run(cells, kind)
+    stretches::find_in_stretch(cells, kind)
 }
 
 // Writes the byte of each cell when so many blocks have been taken, if there are as many bytes as cells; answers whether it was done.
@@ -263,7 +270,7 @@ pub fn draw(cells: &[u64], taken: u64, out: &mut [u8]) -> bool
     ensures { λ b. ⌜ now (out .exit) ≡ drawnBytes taken (now (cells .entry)) (now (out .entry)) ⌝ }
 {
     if cells.len() == out.len() {
-        runs::draw_run(cells, smaller(taken, TRUE), out);
+        stretches::draw_stretch(cells, smaller(taken, TRUE), out);
         return true;
     }
     false

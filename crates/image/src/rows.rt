@@ -4,16 +4,16 @@ ghost use mathlib.Core.Path.{_≡_};
 ghost use mathlib.Core.List.{[], _∷_, map};
 ghost use Prim.Native.Nat.{ℕ};
 ghost use lib.ListN.{length};
-ghost use Rattle.image.specs.Cell.{meaningOf, meanings, codes, touched, ofKind, tallied, tallySum, SmallTally};
-ghost use Rattle.image.specs.Range.{ReadyRows};
+ghost use Rattle.image.specs.Cell.{meaningOf, meanings, codes, ofKind, tallied};
+ghost use Rattle.image.specs.RowsComputed.{touched, ReadyRows, tallySum, SmallTally};
 ghost use Rattle.image.specs.Painting.{painted, heldCells, someOf};
+use crate::CellKind;
+use crate::CellTally;
 use crate::GIVEN_UP;
-use crate::Kind;
 use crate::Op;
 use crate::PixelRange;
 use crate::Reading;
 use crate::TRUE;
-use crate::Tally;
 use crate::read_cell;
 
 pub(crate) fn paint_rows(cells: &mut [u64], width: usize, r: PixelRange, op: Op)
@@ -67,7 +67,7 @@ fn name_cell(cell: u64, from: u64, to: u64) -> u64
     }
 }
 
-pub(crate) fn find_in_rows(cells: &[u64], width: usize, r: PixelRange, kind: Kind) -> bool
+pub(crate) fn find_in_rows(cells: &[u64], width: usize, r: PixelRange, kind: CellKind) -> bool
     requires { ⌜ ReadyRows width r (length (now cells)) ⌝ }
     ensures { λ b. ⌜ b ≡ someOf (ofKind kind) (heldCells width r (meanings (now (cells .entry)))) ⌝ }
 {
@@ -84,7 +84,7 @@ pub(crate) fn find_in_rows(cells: &[u64], width: usize, r: PixelRange, kind: Kin
     false
 }
 
-pub(crate) fn find_in_row(row: &[u64], kind: Kind) -> bool
+pub(crate) fn find_in_row(row: &[u64], kind: CellKind) -> bool
     ensures { λ b. ⌜ b ≡ someOf (ofKind kind) (meanings (now (row .entry))) ⌝ }
 {
     for i in 0..row.len() {
@@ -95,24 +95,24 @@ pub(crate) fn find_in_row(row: &[u64], kind: Kind) -> bool
     false
 }
 
-fn is_of(kind: Kind, cell: u64) -> bool
+fn is_of(kind: CellKind, cell: u64) -> bool
     ensures { λ b. ⌜ b ≡ ofKind kind (meaningOf cell) ⌝ }
 {
     match kind {
-        Kind::Unmarked => cell != TRUE,
-        Kind::Abandoned => cell == GIVEN_UP,
-        Kind::Damaged => GIVEN_UP < cell,
+        CellKind::Unmarked => cell != TRUE,
+        CellKind::GivenUp => cell == GIVEN_UP,
+        CellKind::Damaged => GIVEN_UP < cell,
     }
 }
 
-pub(crate) fn count_rows(cells: &[u64], width: usize, r: PixelRange, taken: u64) -> Tally
+pub(crate) fn count_rows(cells: &[u64], width: usize, r: PixelRange, taken: u64) -> CellTally
     requires { ⌜ ReadyRows width r (length (now cells)) ⌝ }
     ensures { λ t. ⌜ t ≡ tallied taken (heldCells width r (meanings (now (cells .entry)))) ⌝ }
 {
     let left = r.left;
     let right = r.right;
     let bottom = r.bottom;
-    let mut tally = Tally {
+    let mut tally = CellTally {
         trues: 0,
         falses: 0,
         uncertain: 0,
@@ -126,10 +126,10 @@ pub(crate) fn count_rows(cells: &[u64], width: usize, r: PixelRange, taken: u64)
     tally
 }
 
-fn count_row(row: &[u64], taken: u64) -> Tally
+fn count_row(row: &[u64], taken: u64) -> CellTally
     ensures { λ t. ⌜ t ≡ tallied taken (meanings (now (row .entry))) ⌝ }
 {
-    let mut tally = Tally {
+    let mut tally = CellTally {
         trues: 0,
         falses: 0,
         uncertain: 0,
@@ -141,23 +141,23 @@ fn count_row(row: &[u64], taken: u64) -> Tally
     tally
 }
 
-fn count_cell(cell: u64, taken: u64) -> Tally
+fn count_cell(cell: u64, taken: u64) -> CellTally
     ensures { λ t. ⌜ t ≡ tallied taken (meanings (cell ∷ [])) ⌝ }
 {
     match read_cell(cell, taken) {
-        Reading::True => Tally {
+        Reading::True => CellTally {
             trues: 1,
             falses: 0,
             uncertain: 0,
             givenup: 0,
         },
-        Reading::False => Tally {
+        Reading::False => CellTally {
             trues: 0,
             falses: 1,
             uncertain: 0,
             givenup: 0,
         },
-        Reading::Uncertain => Tally {
+        Reading::Uncertain => CellTally {
             trues: 0,
             falses: 0,
             uncertain: 1,
@@ -166,11 +166,11 @@ fn count_cell(cell: u64, taken: u64) -> Tally
     }
 }
 
-fn sum(t: Tally, u: Tally) -> Tally
+fn sum(t: CellTally, u: CellTally) -> CellTally
     requires { ⌜ SmallTally t × SmallTally u ⌝ }
     ensures { λ r. ⌜ r ≡ tallySum t u ⌝ }
 {
-    Tally {
+    CellTally {
         trues: t.trues + u.trues,
         falses: t.falses + u.falses,
         uncertain: t.uncertain + u.uncertain,

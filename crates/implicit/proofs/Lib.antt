@@ -9,7 +9,7 @@ pub mod SetupLawsRefusal
 pub mod SetupLawsQueueing
 pub mod SetupLawsStart
 pub mod StepLawsKept
-pub mod StepLawsByChild
+pub mod StepLawsComputed
 pub mod StepLawsCode
 pub mod StepLaws
 pub mod StepLawsWent

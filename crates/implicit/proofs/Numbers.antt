@@ -1,5 +1,6 @@
--- FOR READERS: the numbers of refusal, entry by entry, to be held against document 01's table. Each theorem tells the number of the answer that an entry's contract
--- names: that of the first row that applies, in the order of the paragraph below the table, and 0 where none does. Assumes nothing.
+-- FOR READERS: the numbers of refusal, entry by entry, to be held against document 01's table. Each theorem tells the number of the answer
+-- that an entry's contract names: that of the first row that applies, in the order of the paragraph below the table, and 0 where none does.
+-- Assumes nothing.
 use mathlib.Core.Path.{_≡_, refl, ap}
 use mathlib.Core.Bool.{Bool, true, false, cond, not, _&&_, _||_}
 use mathlib.Core.List.{List, [], _∷_}
@@ -19,24 +20,24 @@ use Rattle.decide.specs.declared.Chosen.{Chosen}
 use Rattle.decide.specs.Damage.{legalSide, undamaged}
 use Rattle.decide.specs.Children.{childrenOf}
 use Rattle.decide.specs.Verdict.{allLegal}
-use Rattle.implicit.specs.declared.begin.SetupEnd.{SetupEnd}
-use Rattle.implicit.specs.declared.begin.SetupEnd.the-variants as E
+use Rattle.implicit.specs.declared.setting_up.SetupEnd.{SetupEnd}
+use Rattle.implicit.specs.declared.setting_up.SetupEnd.the-variants as E
 use Rattle.implicit.specs.declared.state.State.{State}
 use Rattle.implicit.specs.declared.state.Ranges.{Ranges}
-use Rattle.implicit.specs.declared.state.Started.{Started}
-use Rattle.implicit.specs.declared.state.Started.the-variants as S
-use Rattle.implicit.specs.declared.state.Needed.the-variants as M
-use Rattle.implicit.specs.declared.state.Drawn.the-variants as D
-use Rattle.implicit.specs.declared.state.Counted.the-variants as C
+use Rattle.implicit.specs.declared.state.SetupAnswer.{SetupAnswer}
+use Rattle.implicit.specs.declared.state.SetupAnswer.the-variants as S
+use Rattle.implicit.specs.declared.state.NeededAnswer.the-variants as M
+use Rattle.implicit.specs.declared.state.CallAnswer.the-variants as D
+use Rattle.implicit.specs.declared.state.CountsAnswer.the-variants as C
 use Rattle.implicit.specs.Record.{pixelCount, pixelCells, soundRecord, queueEmpty}
-use Rattle.implicit.specs.Setup.{rangesLegal, firstBytes, setupRefusal, leastRing, startRecord, startedBy, startedAnswer, cleared}
+use Rattle.implicit.specs.Setup.{rangesLegal, firstBytes, setupRefusal, leastRing, startRecord, startedBy, setupAnswer, cleared}
 use Rattle.implicit.specs.Listing.{frontOf, unlisted, listedBlock, listedFrom, childrenListed}
-use Rattle.implicit.specs.Step.{World, StepEnd, refused, unless, enoughVerdicts, newBlocks, newBytes, blockFine, judged, opened, stepWith, stepAnswer}
-use Rattle.implicit.specs.Run.{RunAnswer, notRun, runOf, runAnswer}
+use Rattle.implicit.specs.Step.{World, StepEnd, refused, unless, enoughVerdicts, newBlocks, newBytes, blockSound, judged, afterTaking, stepWith, stepAnswer}
+use Rattle.implicit.specs.Run.{RunEnd, RunResult, notRun, hasRun, runOf, runAnswer}
 use Rattle.implicit.specs.Room.{enoughRing}
 use Rattle.implicit.specs.Move.{MoveEnd, notMoved, moveOf, moveAnswer}
-use Rattle.implicit.specs.View.{cellsFine, pictureAnswer, countsAnswer}
-use Rattle.implicit.specs.Answers.{setupNumber, setupState, neededNumber, moveNumber, stepNumber, runNumber, drawnNumber, childrenNumber, countsNumber}
+use Rattle.implicit.specs.View.{cellsSound, pictureAnswer, countsAnswer}
+use Rattle.implicit.specs.Answers.{setupNumber, setupState, neededNumber, moveNumber, stepNumber, runNumber, callNumber, childrenNumber, countsNumber, endingWord, runWord}
 use Rattle.implicit.proofs.RecordLaws.{waiting-by-count}
 use Rattle.implicit.proofs.RoomLaws.{least-exactly}
 
@@ -110,13 +111,13 @@ never-zero R.Sheet e = omega arith
 
 -- setup
 pub setup-number : (p : Chosen) (r : Ranges) (len count : ℕ)
-    → setupNumber (startedAnswer p r len count)
+    → setupNumber (setupAnswer p r len count)
     ≡ firstOf ((1, not (legalSide (p .width)) || not (legalSide (p .height)))
     ∷ (2, ltb count (pixelCount p))
     ∷ (3, not (rangesLegal (p .set) r))
     ∷ (6, ltb len (length (firstBytes p r)))
     ∷ [])
-unfolding startedAnswer setupRefusal
+unfolding setupAnswer setupRefusal
 setup-number p r len count =
     let f : SetupEnd → ℕ = λ e. setupNumber (startedBy e (startRecord p r len)) in
     row f (legalSide (p .width) && legalSide (p .height)) (E.Rejected R.Side) _ _ _ (one-fails (legalSide (p .width)) (legalSide (p .height))) (λ _.
@@ -125,7 +126,7 @@ setup-number p r len count =
     row f (leb (length (firstBytes p r)) len) (E.Rejected R.Room) _ _ _ (fewer (length (firstBytes p r)) len) (λ _. none))))
 
 -- a setup whose number is 0 was accepted, with the record that it answers
-pub ready-by-number : (d : Started) (s : State) → setupNumber d ≡ 0 → setupState d ≡ s → d ≡ S.Ready s
+pub ready-by-number : (d : SetupAnswer) (s : State) → setupNumber d ≡ 0 → setupState d ≡ s → d ≡ S.Ready s
 ready-by-number (S.Ready t) s e f = ap S.Ready f
 ready-by-number (S.Refused why) s e f = absurd (never-zero why e)
 
@@ -139,8 +140,8 @@ least-ring-number p r =
 
 -- and it is least: with enough cells a setup is refused by 6 on every shorter ring, and on no other
 pub least-ring-is-least : (p : Chosen) (r : Ranges) (len count n : ℕ) → leastRing p r ≡ M.Bytes n → pixelCount p ≤ count
-    → setupNumber (startedAnswer (cleared p) r len count) ≡ firstOf ((6, ltb len n) ∷ [])
-unfolding startedAnswer
+    → setupNumber (setupAnswer (cleared p) r len count) ≡ firstOf ((6, ltb len n) ∷ [])
+unfolding setupAnswer
 least-ring-is-least p r len count n e cells =
     let f : SetupEnd → ℕ = λ e. setupNumber (startedBy e (startRecord (cleared p) r len)) in
     rw (least-exactly p r len count n e cells) (row f (leb n len) (E.Rejected R.Room) _ _ _ (fewer n len) (λ _. none))
@@ -190,26 +191,28 @@ blockRows tape w vs T.Outside = (8, true) ∷ []
 blockRows tape w vs (T.Front b last head used) =
     let cs = childrenOf (w .state .chosen) b in
     let own = take (length cs) vs in
-    (8, not (blockFine (w .state .chosen) (w .cells) b))
+    (8, not (blockSound (w .state .chosen) (w .cells) b))
     ∷ (4, not (enoughVerdicts tape (length cs) (length vs)))
     ∷ (5, not (allLegal cs own))
     ∷ (7, ltb (2 ^ 32) (w .state .queued + length (newBlocks w b own)))
     ∷ (6, ltb (length (w .ring)) (used + length (newBytes w b own)))
     ∷ []
 
-block-number : (tape : Bool) (w : World) (vs : List ℕ) (t : Taken) → stepNumber (stepAnswer (w .state) (opened tape w vs t)) ≡ firstOf (blockRows tape w vs t)
-unfolding opened judged unless blockRows
+block-number : (tape : Bool) (w : World) (vs : List ℕ) (t : Taken) → stepNumber (stepAnswer (w .state) (afterTaking tape w vs t)) ≡ firstOf (blockRows tape w vs t)
+unfolding afterTaking judged unless blockRows
 block-number tape w vs T.Damaged = unread
 block-number tape w vs T.Outside = unread
 block-number tape w vs (T.Front b last head used) =
     let f : StepEnd → ℕ = λ e. stepNumber (stepAnswer (w .state) e) in
     let cs = childrenOf (w .state .chosen) b in
     let own = take (length cs) vs in
-    row f (blockFine (w .state .chosen) (w .cells) b) (refused R.Damaged) _ _ _ refl (λ _.
+    row f (blockSound (w .state .chosen) (w .cells) b) (refused R.Damaged) _ _ _ refl (λ _.
     row f (enoughVerdicts tape (length cs) (length vs)) (refused R.Verdicts) _ _ _ refl (λ _.
     row f (allLegal cs own) (refused R.Verdict) _ _ _ refl (λ _.
-    row f (leb (w .state .queued + length (newBlocks w b own)) (2 ^ 32)) (refused R.Numbers) _ _ _ (fewer (w .state .queued + length (newBlocks w b own)) (2 ^ 32)) (λ _.
-    row f (leb (used + length (newBytes w b own)) (length (w .ring))) (refused R.Room) _ _ _ (fewer (used + length (newBytes w b own)) (length (w .ring))) (λ _. none)))))
+    row f (leb (w .state .queued + length (newBlocks w b own)) (2 ^ 32)) (refused R.Numbers) _ _ _
+    (fewer (w .state .queued + length (newBlocks w b own)) (2 ^ 32)) (λ _.
+    row f (leb (used + length (newBytes w b own)) (length (w .ring))) (refused R.Room) _ _ _
+    (fewer (used + length (newBytes w b own)) (length (w .ring))) (λ _. none)))))
 
 pub step-number : (tape : Bool) (w : World) (vs : List ℕ)
     → stepNumber (stepAnswer (w .state) (stepWith tape w vs))
@@ -232,14 +235,19 @@ pub run-number : (budget : ℕ) (w : World) (tape : List ℕ)
     ≡ firstOf ((8, not (soundRecord (length (w .ring)) (w .state))) ∷ (2, ltb (length (w .cells)) (pixelCount (w .state .chosen))) ∷ [])
 unfolding runOf
 run-number budget w tape =
-    let f : RunAnswer → ℕ = λ a. runNumber (runAnswer (w .state) a) in
+    let f : RunResult → ℕ = λ a. runNumber (runAnswer (w .state) a) in
     let p = w .state .chosen in
     row f (soundRecord (length (w .ring)) (w .state)) (notRun R.Damaged) _ _ _ refl (λ _.
     row f (leb (pixelCount p) (length (w .cells))) (notRun R.Cells) _ _ _ (fewer (pixelCount p) (length (w .cells))) (λ _. none))
 
+-- its word, where it is not refused, is its ending's
+pub run-word : (budget : ℕ) (w : World) (tape : List ℕ) (e : RunEnd) → runOf budget w tape ≡ hasRun e
+    → runWord (runAnswer (w .state) (runOf budget w tape)) ≡ endingWord (e .ending)
+run-word budget w tape e h = ap (λ a. runWord (runAnswer (w .state) a)) h
+
 -- the picture, into so many bytes of room
 pub picture-number : (s : State) (cells : List ℕ) (room : ℕ)
-    → drawnNumber (pictureAnswer s cells room)
+    → callNumber (pictureAnswer s cells room)
     ≡ firstOf ((8, not (soundRecord (s .len) s))
     ∷ (2, ltb (length cells) (pixelCount (s .chosen)))
     ∷ (12, ltb room (pixelCount (s .chosen)))
@@ -248,10 +256,10 @@ pub picture-number : (s : State) (cells : List ℕ) (room : ℕ)
 unfolding pictureAnswer
 picture-number s cells room =
     let p = s .chosen in
-    row drawnNumber (soundRecord (s .len) s) (D.Refused R.Damaged) _ _ _ refl (λ _.
-    row drawnNumber (leb (pixelCount p) (length cells)) (D.Refused R.Cells) _ _ _ (fewer (pixelCount p) (length cells)) (λ _.
-    row drawnNumber (leb (pixelCount p) room) (D.Refused R.Picture) _ _ _ (fewer (pixelCount p) room) (λ _.
-    row drawnNumber (cellsFine s cells) (D.Refused R.Damaged) _ _ _ (not-not (someOf isDamaged (pixelCells p cells))) (λ _. none))))
+    row callNumber (soundRecord (s .len) s) (D.Refused R.Damaged) _ _ _ refl (λ _.
+    row callNumber (leb (pixelCount p) (length cells)) (D.Refused R.Cells) _ _ _ (fewer (pixelCount p) (length cells)) (λ _.
+    row callNumber (leb (pixelCount p) room) (D.Refused R.Picture) _ _ _ (fewer (pixelCount p) room) (λ _.
+    row callNumber (cellsSound s cells) (D.Refused R.Damaged) _ _ _ (not-not (someOf isDamaged (pixelCells p cells))) (λ _. none))))
 
 -- the counts
 pub counts-number : (s : State) (cells : List ℕ)
@@ -265,4 +273,4 @@ counts-number s cells =
     let p = s .chosen in
     row countsNumber (soundRecord (s .len) s) (C.Refused R.Damaged) _ _ _ refl (λ _.
     row countsNumber (leb (pixelCount p) (length cells)) (C.Refused R.Cells) _ _ _ (fewer (pixelCount p) (length cells)) (λ _.
-    row countsNumber (cellsFine s cells) (C.Refused R.Damaged) _ _ _ (not-not (someOf isDamaged (pixelCells p cells))) (λ _. none)))
+    row countsNumber (cellsSound s cells) (C.Refused R.Damaged) _ _ _ (not-not (someOf isDamaged (pixelCells p cells))) (λ _. none)))

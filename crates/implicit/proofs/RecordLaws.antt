@@ -56,7 +56,9 @@ pub record SoundLast (l : Last) : Type 0 where
 pub sound-last : (l : Last) → soundLast l ≡ true → SoundLast l
 unfolding soundLast
 sound-last l h =
-    let f = and-six (ltb (l .x) (2 ^ 47)) (ltb (l .y) (2 ^ 47)) (legalInterval (l .m) true) (legalInterval (l .n) true) (legalInterval (l .theta) true) (legalInterval (l .t) false) h in
+    let f =
+    and-six (ltb (l .x) (2 ^ 47)) (ltb (l .y) (2 ^ 47)) (legalInterval (l .m) true) (legalInterval (l .n) true)
+    (legalInterval (l .theta) true) (legalInterval (l .t) false) h in
     record { x = ltb-true (l .x) (2 ^ 47) (f .0); y = ltb-true (l .y) (2 ^ 47) (f .1); m = f .2; n = f .3; theta = f .4; t = f .5 }
 
 pub last-sound : (l : Last) → SoundLast l → soundLast l ≡ true
@@ -181,7 +183,8 @@ keep-first : (t : ℕ → Bool) (i k : ℕ) (l : List Cell) → ((j : ℕ) → i
 keep-first t i k [] on off = sym (take-nil k)
 keep-first t i zero (c ∷ l) on off = keepAt-none t i (c ∷ l) (λ j p q. off j (omega arith))
 keep-first t i (suc k) (c ∷ l) on off =
-    rw (on i (omega arith) (omega arith)) (ap (λ (r : List Cell). c ∷ r) (keep-first t (suc i) k l (λ j p q. on j (omega arith) (omega arith)) (λ j p. off j (omega arith))))
+    rw (on i (omega arith) (omega arith))
+    (ap (λ (r : List Cell). c ∷ r) (keep-first t (suc i) k l (λ j p q. on j (omega arith) (omega arith)) (λ j p. off j (omega arith))))
 
 -- they are the first cells, as many as there are pixels
 pub pixel-cells : (p : Chosen) (l : List ℕ) → pixelCells p l ≡ take (pixelCount p) (meanings l)
@@ -206,7 +209,7 @@ pub whole-ready : (p : Chosen) (n : ℕ) → pixelCount p ≤ n → pictureReady
 unfolding pictureReady
 whole-ready p n h = rw (whole-in-picture (p .width) (p .height), le-leb (pixelCount p) n h)
 
--- THREE READINGS OF "THE QUEUE IS EMPTY": on a sound record they are one
+-- THREE READINGS OF AN EMPTY QUEUE: on a sound record they are one
 
 pub empty-by-count : (len : ℕ) (s : State) → soundRecord len s ≡ true → queueEmpty s ≡ eqb (s .taken) (s .queued)
 empty-by-count len s h = rw (sound-record len s h .empty, and-implied (eqb (s .taken) (s .queued)) (eqb (s .taken) (s .queued)) (λ e. e))

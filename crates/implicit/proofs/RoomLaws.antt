@@ -18,12 +18,12 @@ use Rattle.queue.specs.Ring.{content, fitsRing, stored}
 use Rattle.queue.specs.Queue.{copied, ifCopied, copiedRing}
 use Rattle.decide.specs.declared.Chosen.{Chosen}
 use Rattle.decide.specs.Damage.{legalSide}
-use Rattle.implicit.specs.declared.begin.SetupEnd.the-variants as E
+use Rattle.implicit.specs.declared.setting_up.SetupEnd.the-variants as E
 use Rattle.implicit.specs.declared.state.State.{State}
 use Rattle.implicit.specs.declared.state.Ranges.{Ranges}
-use Rattle.implicit.specs.declared.state.Needed.the-variants as N
-use Rattle.implicit.specs.declared.state.Moved.{Moved}
-use Rattle.implicit.specs.declared.state.Moved.the-variants as M
+use Rattle.implicit.specs.declared.state.NeededAnswer.the-variants as N
+use Rattle.implicit.specs.declared.state.MoveAnswer.{MoveAnswer}
+use Rattle.implicit.specs.declared.state.MoveAnswer.the-variants as M
 use Rattle.implicit.specs.Record.{pixelCount, soundRecord}
 use Rattle.implicit.specs.Setup.{startLevel, rootBlock, firstBlocks, rangesLegal, firstBytes, setupRefusal, leastRing, cleared}
 use Rattle.implicit.specs.Step.{worldOf}
@@ -111,7 +111,7 @@ module _ (s : State) (ring other : List ℕ) where
   move-damaged h cells = rw h (refl, refl)
 
   -- else the copy's answer is the move's
-  abbrev movedBy : Copied → Moved
+  abbrev movedBy : Copied → MoveAnswer
   movedBy C.Done = M.Done (movedRecord s (length other))
   movedBy C.NoRoom = M.Refused R.Room s
   movedBy C.Outside = M.Refused R.Damaged s

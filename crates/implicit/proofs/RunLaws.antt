@@ -14,7 +14,7 @@ use Rattle.refusal.specs.declared.Refusal.{Refusal}
 use Rattle.refusal.specs.declared.Refusal.the-variants as R
 use Rattle.image.specs.declared.Seen.{Seen}
 use Rattle.image.specs.declared.Seen.the-variants as S
-use Rattle.image.specs.declared.Kind.the-variants as K
+use Rattle.image.specs.declared.CellKind.the-variants as K
 use Rattle.image.specs.declared.PixelRange.{PixelRange}
 use Rattle.image.specs.Cell.{isGivenUp, ofKind}
 use Rattle.image.specs.Range.{wholePicture, inPicture, pictureReady}
@@ -23,17 +23,17 @@ use Rattle.queue.proofs.QueueAnswers.{denied, granted}
 use Rattle.queue.proofs.RingLaws.{rest-all}
 use Rattle.decide.specs.declared.Chosen.{Chosen}
 use Rattle.implicit.specs.declared.state.State.{State}
-use Rattle.implicit.specs.declared.state.Stepped.{Stepped}
-use Rattle.implicit.specs.declared.state.Stepped.the-variants as St
+use Rattle.implicit.specs.declared.state.StepAnswer.{StepAnswer}
+use Rattle.implicit.specs.declared.state.StepAnswer.the-variants as St
 use Rattle.implicit.specs.declared.state.Ending.{Ending}
 use Rattle.implicit.specs.declared.state.Ending.the-variants as E
-use Rattle.implicit.specs.declared.state.Ran.{Ran}
-use Rattle.implicit.specs.declared.state.Ran.the-variants as A
-use Rattle.implicit.specs.declared.go.Progress.{Progress}
+use Rattle.implicit.specs.declared.state.RunAnswer.{RunAnswer}
+use Rattle.implicit.specs.declared.state.RunAnswer.the-variants as A
+use Rattle.implicit.specs.declared.running.Progress.{Progress}
 use Rattle.implicit.specs.Record.{pixelCount, pixelCells, soundRecord, queueEmpty}
 use Rattle.implicit.specs.Step.{World, worldOf, StepEnd, refused, finished, tapeStepOf, worldAfter, EndsAs}
 use Rattle.implicit.specs.Run.{RunEnd, endedAs, afterStep, emptyEnding, goneOn, runFrom, runOf, RunsAs}
-use Rattle.implicit.specs.ByStep.{halted, stepped, progressAfter, nextStep, turnedOnce, worldOnce, SoundByUse, Bounded, RunTo}
+use Rattle.implicit.specs.RunComputed.{halted, stepped, progressAfter, nextStep, progressOnce, worldOnce, SoundByUse, Bounded, RunTo}
 use Rattle.implicit.proofs.StepLawsKept.{LastHeld}
 use Rattle.implicit.proofs.StepLawsWent.{step-few, Stays, step-stays}
 use Rattle.implicit.proofs.StepLawsSound.{step-sound}
@@ -46,7 +46,8 @@ pub record RunFew (budget : ℕ) (tape : List ℕ) (e : RunEnd) : Type 0 where
   pub tape-used : e .tape ≤ length tape
   pub tape-few : e .tape ≤ 4 * e .steps
 
-gone-few : (left : ℕ) (w : World) (tape : List ℕ) (s : StepEnd) → tapeStepOf w tape ≡ s → (rest : World → ℕ → RunEnd) → ((v : World) (n : ℕ) → RunFew left (drop n tape) (rest v n)) → RunFew (suc left) tape (goneOn w s rest)
+gone-few : (left : ℕ) (w : World) (tape : List ℕ) (s : StepEnd) → tapeStepOf w tape ≡ s → (rest : World → ℕ → RunEnd)
+    → ((v : World) (n : ℕ) → RunFew left (drop n tape) (rest v n)) → RunFew (suc left) tape (goneOn w s rest)
 gone-few left w tape (refused why) e rest f = record { steps = omega arith; evaluations = omega arith; tape-used = omega arith; tape-few = omega arith }
 gone-few left w tape (finished next evals bytes) e rest f =
     let few = step-few true w tape next evals bytes e in
@@ -73,7 +74,8 @@ run-few (suc left) w tape =
 -- so many finished steps lead from one world to another, with these evaluations and tape bytes in all
 pub data Finished : World → List ℕ → ℕ → ℕ → ℕ → World → Type 0 where
   none : {w : World} {tape : List ℕ} → Finished w tape 0 0 0 w
-  then : {w next left : World} {tape : List ℕ} {evals bytes steps evals′ bytes′ : ℕ} → tapeStepOf w tape ≡ finished next evals bytes → Finished next (drop bytes tape) steps evals′ bytes′ left
+  then : {w next left : World} {tape : List ℕ} {evals bytes steps evals′ bytes′ : ℕ}
+      → tapeStepOf w tape ≡ finished next evals bytes → Finished next (drop bytes tape) steps evals′ bytes′ left
       → Finished w tape (suc steps) (evals + evals′) (bytes + bytes′) left
 
 gone-finished : (left : ℕ) (w : World) (tape : List ℕ) (s : StepEnd) → tapeStepOf w tape ≡ s
@@ -92,7 +94,8 @@ run-finished (suc left) w tape =
 -- ONE TURN OF THE LOOP
 
 -- where the queue is empty a run ends, whatever its budget
-run-empty : (budget : ℕ) (w : World) (tape : List ℕ) → queueEmpty (w .state) ≡ true → runFrom budget w tape ≡ endedAs w (emptyEnding (w .state .chosen) (w .cells))
+run-empty : (budget : ℕ) (w : World) (tape : List ℕ) → queueEmpty (w .state) ≡ true
+    → runFrom budget w tape ≡ endedAs w (emptyEnding (w .state .chosen) (w .cells))
 unfolding runFrom
 run-empty zero w tape e = rw e
 run-empty (suc left) w tape e = rw e
@@ -101,7 +104,8 @@ run-more : (w : World) (tape : List ℕ) → queueEmpty (w .state) ≡ false →
 unfolding runFrom
 run-more w tape e = rw e
 
-run-step : (left : ℕ) (w : World) (tape : List ℕ) → queueEmpty (w .state) ≡ false → runFrom (suc left) w tape ≡ goneOn w (tapeStepOf w tape) (λ next bytes. runFrom left next (drop bytes tape))
+run-step : (left : ℕ) (w : World) (tape : List ℕ) → queueEmpty (w .state) ≡ false
+    → runFrom (suc left) w tape ≡ goneOn w (tapeStepOf w tape) (λ next bytes. runFrom left next (drop bytes tape))
 unfolding runFrom
 run-step left w tape e = rw e
 
@@ -122,9 +126,19 @@ wholeOn budget p w tape = counted p (cond (p .going) (runFrom (budget - p .steps
 unfoldable pub wholeRun : ℕ → Progress → List ℕ → List ℕ → List ℕ → RunEnd
 wholeRun budget p ring cells tape = wholeOn budget p (worldOf (p .state) ring cells) tape
 
+-- what the loop keeps from one place to the next, and what falls
+pub record LoopKept (budget : ℕ) (tape : List ℕ) (p : Progress) (ring cells : List ℕ) (r : Progress) (ring′ cells′ : List ℕ) : Type 0 where
+  pub bounded : Bounded budget tape r
+  pub same-ring : length ring′ ≡ length ring
+  pub same-cells : length cells′ ≡ length cells
+  pub enough : leb (pixelCount (r .state .chosen)) (length cells′) ≡ true
+  pub whole : wholeRun budget r ring′ cells′ tape ≡ wholeRun budget p ring cells tape
+  pub less : budget - r .steps + cond (r .going) 1 0 < budget - p .steps + cond (p .going) 1 0
+
 -- a step finished, and the rest
 counted-more : (budget : ℕ) (p : Progress) (next : World) (evals bytes : ℕ) (tape : List ℕ) → p .steps < budget
-    → wholeOn budget (stepped p (next .state) evals bytes) next tape ≡ counted p (afterStep evals bytes (runFrom (budget - p .steps - 1) next (drop bytes (drop (p .tape) tape))))
+    → wholeOn budget (stepped p (next .state) evals bytes) next tape
+    ≡ counted p (afterStep evals bytes (runFrom (budget - p .steps - 1) next (drop bytes (drop (p .tape) tape))))
 counted-more budget p next evals bytes tape h =
     let k : budget - (p .steps + 1) ≡ budget - p .steps - 1 = omega arith in
     let d : drop bytes (drop (p .tape) tape) ≡ drop (p .tape + bytes) tape = drop-drop bytes (p .tape) tape in
@@ -142,63 +156,73 @@ module _ (budget : ℕ) (p : Progress) (ring cells tape : List ℕ) (going : p .
   abbrev next : StepEnd
   next = nextStep p ring cells tape
 
-  step-turn : queueEmpty (p .state) ≡ false → p .steps < budget → (s : StepEnd) → next ≡ s → wholeOn budget (progressAfter p s) (worldAfter (worldOf (p .state) ring cells) s) tape ≡ counted p rest
-  step-turn e h (refused why) f =
+  step-pass : queueEmpty (p .state) ≡ false → p .steps < budget → (s : StepEnd) → next ≡ s
+      → wholeOn budget (progressAfter p s) (worldAfter (worldOf (p .state) ring cells) s) tape ≡ counted p rest
+  step-pass e h (refused why) f =
       let k : budget - p .steps ≡ suc (budget - p .steps - 1) = omega arith in
       rw (k, run-step (budget - p .steps - 1) (worldOf (p .state) ring cells) (drop (p .tape) tape) e, f)
-  step-turn e h (finished left evals bytes) f =
+  step-pass e h (finished left evals bytes) f =
       let k : budget - p .steps ≡ suc (budget - p .steps - 1) = omega arith in
+      let w = worldOf (p .state) ring cells in
       counted-more budget p left evals bytes tape h
-      ∙ ap (counted p) (sym (ap (λ (n : ℕ). runFrom n (worldOf (p .state) ring cells) (drop (p .tape) tape)) k ∙ run-step (budget - p .steps - 1) (worldOf (p .state) ring cells) (drop (p .tape) tape) e
-      ∙ ap (λ (s : StepEnd). goneOn (worldOf (p .state) ring cells) s (λ v n. runFrom (budget - p .steps - 1) v (drop n (drop (p .tape) tape)))) f))
+      ∙ ap (counted p) (sym (ap (λ (n : ℕ). runFrom n w (drop (p .tape) tape)) k ∙ run-step (budget - p .steps - 1) w (drop (p .tape) tape) e
+      ∙ ap (λ (s : StepEnd). goneOn w s (λ v n. runFrom (budget - p .steps - 1) v (drop n (drop (p .tape) tape)))) f))
 
-  spent-turn : queueEmpty (p .state) ≡ false → budget ≤ p .steps → wholeOn budget (halted p E.More) (worldOf (p .state) ring cells) tape ≡ counted p rest
-  spent-turn e h =
+  spent-pass : queueEmpty (p .state) ≡ false → budget ≤ p .steps → wholeOn budget (halted p E.More) (worldOf (p .state) ring cells) tape ≡ counted p rest
+  spent-pass e h =
       let z : budget - p .steps ≡ 0 = omega arith in
       rw (z, run-more (worldOf (p .state) ring cells) (drop (p .tape) tape) e)
 
-  empty-turn : queueEmpty (p .state) ≡ true → wholeOn budget (halted p (emptyEnding (p .state .chosen) cells)) (worldOf (p .state) ring cells) tape ≡ counted p rest
-  empty-turn e = rw (run-empty (budget - p .steps) (worldOf (p .state) ring cells) (drop (p .tape) tape) e)
+  empty-pass : queueEmpty (p .state) ≡ true
+      → wholeOn budget (halted p (emptyEnding (p .state .chosen) cells)) (worldOf (p .state) ring cells) tape ≡ counted p rest
+  empty-pass e = rw (run-empty (budget - p .steps) (worldOf (p .state) ring cells) (drop (p .tape) tape) e)
 
-  turn-rest : wholeOn budget (turnedOnce budget p ring cells tape) (worldOnce budget p ring cells tape) tape ≡ counted p rest
-  unfolding turnedOnce worldOnce
-  turn-rest =
-      cases (queueEmpty (p .state)) (λ e. rw e (empty-turn e))
-      (λ e. cases (leb budget (p .steps)) (λ k. rw (e, k) (spent-turn e (leb-true budget (p .steps) k))) (λ k. rw (e, k) (step-turn e (leb-false budget (p .steps) k) next refl)))
+  pass-rest : wholeOn budget (progressOnce budget p ring cells tape) (worldOnce budget p ring cells tape) tape ≡ counted p rest
+  unfolding progressOnce worldOnce
+  pass-rest =
+      cases (queueEmpty (p .state)) (λ e. rw e (empty-pass e))
+      (λ e. cases (leb budget (p .steps)) (λ k. rw (e, k) (spent-pass e (leb-true budget (p .steps) k)))
+      (λ k. rw (e, k) (step-pass e (leb-false budget (p .steps) k) next refl)))
 
-  turn-on : wholeOn budget (turnedOnce budget p ring cells tape) (worldOnce budget p ring cells tape) tape ≡ wholeOn budget p (worldOf (p .state) ring cells) tape
-  turn-on = turn-rest ∙ sym (ap (counted p) (cond-yes (p .going) rest (endedAs (worldOf (p .state) ring cells) (p .ending)) going))
+  pass-on : wholeOn budget (progressOnce budget p ring cells tape) (worldOnce budget p ring cells tape) tape
+      ≡ wholeOn budget p (worldOf (p .state) ring cells) tape
+  pass-on = pass-rest ∙ sym (ap (counted p) (cond-yes (p .going) rest (endedAs (worldOf (p .state) ring cells) (p .ending)) going))
 
-  module _ (r : Progress) (ring′ cells′ : List ℕ) (is-r : r ≡ turnedOnce budget p ring cells tape) (is-world : worldOf (r .state) ring′ cells′ ≡ worldOnce budget p ring cells tape) where
+  module _ (r : Progress) (ring′ cells′ : List ℕ) (is-r : r ≡ progressOnce budget p ring cells tape)
+      (is-world : worldOf (r .state) ring′ cells′ ≡ worldOnce budget p ring cells tape) where
     -- what is left to do from here is what was to do
-    pub turn-whole : wholeRun budget r ring′ cells′ tape ≡ wholeRun budget p ring cells tape
+    pass-whole : wholeRun budget r ring′ cells′ tape ≡ wholeRun budget p ring cells tape
     unfolding wholeRun
-    turn-whole = rw (is-world, is-r) turn-on
+    pass-whole = rw (is-world, is-r) pass-on
 
     -- the loop's measure falls
-    pub turn-less : p .steps ≤ budget → budget - r .steps + cond (r .going) 1 0 < budget - p .steps + cond (p .going) 1 0
-    unfolding turnedOnce
-    turn-less h =
+    pass-less : p .steps ≤ budget → budget - r .steps + cond (r .going) 1 0 < budget - p .steps + cond (p .going) 1 0
+    unfolding progressOnce
+    pass-less h =
         let g : _≡_ {A = ℕ} (cond (p .going) 1 0) 1 = ap (λ (b : Bool). cond b 1 0) going in
-        let f : budget - turnedOnce budget p ring cells tape .steps + cond (turnedOnce budget p ring cells tape .going) 1 0 < budget - p .steps + 1 =
+        let f : budget - progressOnce budget p ring cells tape .steps + cond (progressOnce budget p ring cells tape .going) 1 0 < budget - p .steps + 1 =
         cases (queueEmpty (p .state)) (λ e. rw e (omega arith))
-        (λ e. cases (leb budget (p .steps)) (λ k. rw (e, k) (omega arith)) (λ k. rw (e, k) (after (leb-false budget (p .steps) k) (nextStep p ring cells tape)))) in
+        (λ e. cases (leb budget (p .steps)) (λ k. rw (e, k) (omega arith))
+        (λ k. rw (e, k) (after (leb-false budget (p .steps) k) (nextStep p ring cells tape)))) in
         rw is-r (omega (arith, f, g))
       where
         after : p .steps < budget → (s : StepEnd) → budget - progressAfter p s .steps + cond (progressAfter p s .going) 1 0 < budget - p .steps + 1
         after k (refused why) = omega arith
         after k (finished next evals bytes) = omega arith
 
-    pub turn-bounded : Bounded budget tape p → Bounded budget tape r
-    unfolding turnedOnce
-    turn-bounded b =
+    pass-bounded : Bounded budget tape p → Bounded budget tape r
+    unfolding progressOnce
+    pass-bounded b =
         rw is-r
-        (cases (queueEmpty (p .state)) (λ e. rw e (record { steps = b .steps; evaluations = b .evaluations; tape-used = b .tape-used; tape-few = b .tape-few }))
-        (λ e. cases (leb budget (p .steps)) (λ k. rw (e, k) (record { steps = b .steps; evaluations = b .evaluations; tape-used = b .tape-used; tape-few = b .tape-few }))
+        (cases (queueEmpty (p .state)) (λ e. rw e (halts (emptyEnding (p .state .chosen) cells)))
+        (λ e. cases (leb budget (p .steps)) (λ k. rw (e, k) (halts E.More))
         (λ k. rw (e, k) (after (leb-false budget (p .steps) k) (nextStep p ring cells tape) refl))))
       where
+        halts : (e : Ending) → Bounded budget tape (halted p e)
+        halts e = record { steps = b .steps; evaluations = b .evaluations; tape-used = b .tape-used; tape-few = b .tape-few }
+
         after : p .steps < budget → (s : StepEnd) → nextStep p ring cells tape ≡ s → Bounded budget tape (progressAfter p s)
-        after k (refused why) f = record { steps = b .steps; evaluations = b .evaluations; tape-used = b .tape-used; tape-few = b .tape-few }
+        after k (refused why) f = halts (E.Stop why)
         after k (finished next evals bytes) f =
             let few = step-few true (worldOf (p .state) ring cells) (drop (p .tape) tape) next evals bytes f in
             record {
@@ -209,9 +233,9 @@ module _ (budget : ℕ) (p : Progress) (ring cells tape : List ℕ) (going : p .
             }
 
     -- the picture and the buffers' lengths stay
-    pub turn-stays : Stays (worldOf (p .state) ring cells) (worldOf (r .state) ring′ cells′)
+    pass-stays : Stays (worldOf (p .state) ring cells) (worldOf (r .state) ring′ cells′)
     unfolding worldOnce
-    turn-stays =
+    pass-stays =
         rw is-world
         (cases (queueEmpty (p .state)) (λ e. rw e same)
         (λ e. cases (leb budget (p .steps)) (λ k. rw (e, k) same) (λ k. rw (e, k) (after (nextStep p ring cells tape) refl))))
@@ -223,8 +247,18 @@ module _ (budget : ℕ) (p : Progress) (ring cells tape : List ℕ) (going : p .
         after (refused why) f = record { chosen = refl; ring = refl; cells = refl }
         after (finished next evals bytes) f = step-stays true (worldOf (p .state) ring cells) (drop (p .tape) tape) next evals bytes f
 
-    pub turn-enough : leb (pixelCount (p .state .chosen)) (length cells) ≡ true → leb (pixelCount (r .state .chosen)) (length cells′) ≡ true
-    turn-enough h = let s = turn-stays in rw (s .chosen, s .cells) h
+    pass-enough : leb (pixelCount (p .state .chosen)) (length cells) ≡ true → leb (pixelCount (r .state .chosen)) (length cells′) ≡ true
+    pass-enough h = let s = pass-stays in rw (s .chosen, s .cells) h
+
+    pub loop-kept : Bounded budget tape p → leb (pixelCount (p .state .chosen)) (length cells) ≡ true → LoopKept budget tape p ring cells r ring′ cells′
+    loop-kept b h = record {
+      bounded = pass-bounded b;
+      same-ring = pass-stays .ring;
+      same-cells = pass-stays .cells;
+      enough = pass-enough h;
+      whole = pass-whole;
+      less = pass-less (b .steps);
+    }
 
 -- THE BEGINNING AND THE END OF THE LOOP
 
@@ -232,7 +266,8 @@ module _ (budget : ℕ) (p : Progress) (ring cells tape : List ℕ) (going : p .
 abbrev startProgress : State → Progress
 startProgress s = record { state = s; steps = 0; evaluations = 0; tape = 0; ending = E.More; going = true }
 
-pub run-start : (budget : ℕ) (s : State) (ring cells tape : List ℕ) → wholeRun budget (startProgress s) ring cells tape ≡ runFrom budget (worldOf s ring cells) tape
+pub run-start : (budget : ℕ) (s : State) (ring cells tape : List ℕ)
+    → wholeRun budget (startProgress s) ring cells tape ≡ runFrom budget (worldOf s ring cells) tape
 unfolding wholeRun
 run-start budget s ring cells tape =
     let r = runFrom budget (worldOf s ring cells) tape in
@@ -245,7 +280,8 @@ run-start budget s ring cells tape =
 pub start-bounded : (budget : ℕ) (s : State) (tape : List ℕ) → Bounded budget tape (startProgress s)
 start-bounded budget s tape = record { steps = omega arith; evaluations = omega arith; tape-used = omega arith; tape-few = omega arith }
 
-pub run-end : (budget : ℕ) (p : Progress) (ring cells tape : List ℕ) (e : RunEnd) → p .going ≡ false → wholeRun budget p ring cells tape ≡ e → RunTo e p ring cells
+pub run-end : (budget : ℕ) (p : Progress) (ring cells tape : List ℕ) (e : RunEnd) → p .going ≡ false
+    → wholeRun budget p ring cells tape ≡ e → RunTo e p ring cells
 unfolding wholeRun
 run-end budget p ring cells tape e f h =
     let a : p .steps + 0 ≡ p .steps = omega arith in
@@ -262,61 +298,90 @@ run-end budget p ring cells tape e f h =
 
 -- BY THE TESTS THAT THE CODE MAKES
 
+-- what is promised of how far the run is, once it went on
+abbrev OnceGone : ℕ → Progress → List ℕ → List ℕ → List ℕ → Progress → List ℕ → List ℕ → Type 0
+OnceGone budget p ring cells tape r ring′ cells′ =
+    (r ≡ progressOnce budget p ring cells tape) × (worldOf (r .state) ring′ cells′ ≡ worldOnce budget p ring cells tape) × SoundByUse (length ring′) (r .state)
+
+-- and once a step was tried
+abbrev Tried : Progress → World → StepEnd → Progress → List ℕ → List ℕ → Type 0
+Tried p w s r ring′ cells′ = (r ≡ progressAfter p s) × (worldOf (r .state) ring′ cells′ ≡ worldAfter w s) × SoundByUse (length ring′) (r .state)
+
 module _ (budget : ℕ) (p : Progress) (ring cells tape : List ℕ) (t : Bool) (is-t : t ≡ queueEmpty (p .state)) where
   pub once-empty : (r : Progress) (e : Ending) → t ≡ true → e ≡ emptyEnding (p .state .chosen) cells → r ≡ halted p e → SoundByUse (length ring) (p .state)
-      → (r ≡ turnedOnce budget p ring cells tape) × (worldOf (r .state) ring cells ≡ worldOnce budget p ring cells tape) × SoundByUse (length ring) (r .state)
-  unfolding turnedOnce worldOnce
+      → OnceGone budget p ring cells tape r ring cells
+  unfolding progressOnce worldOnce
   once-empty r e h f g s = let u : queueEmpty (p .state) ≡ true = sym is-t ∙ h in (rw (u, g, f), rw (u, g), rw g s)
 
   pub once-spent : (r : Progress) → t ≡ false → budget ≤ p .steps → r ≡ halted p E.More → SoundByUse (length ring) (p .state)
-      → (r ≡ turnedOnce budget p ring cells tape) × (worldOf (r .state) ring cells ≡ worldOnce budget p ring cells tape) × SoundByUse (length ring) (r .state)
-  unfolding turnedOnce worldOnce
-  once-spent r h k g s = let u : queueEmpty (p .state) ≡ false = sym is-t ∙ h in (rw (u, le-leb budget (p .steps) k, g), rw (u, le-leb budget (p .steps) k, g), rw g s)
+      → OnceGone budget p ring cells tape r ring cells
+  unfolding progressOnce worldOnce
+  once-spent r h k g s =
+      let u : queueEmpty (p .state) ≡ false = sym is-t ∙ h in
+      (rw (u, le-leb budget (p .steps) k, g), rw (u, le-leb budget (p .steps) k, g), rw g s)
 
   pub once-step : (r : Progress) (ring′ cells′ : List ℕ) → t ≡ false → p .steps < budget → r ≡ progressAfter p (nextStep p ring cells tape)
       → worldOf (r .state) ring′ cells′ ≡ worldAfter (worldOf (p .state) ring cells) (nextStep p ring cells tape) → SoundByUse (length ring′) (r .state)
-      → (r ≡ turnedOnce budget p ring cells tape) × (worldOf (r .state) ring′ cells′ ≡ worldOnce budget p ring cells tape) × SoundByUse (length ring′) (r .state)
-  unfolding turnedOnce worldOnce
-  once-step r ring′ cells′ h k g f s = let u : queueEmpty (p .state) ≡ false = sym is-t ∙ h in (rw (u, lt-leb budget (p .steps) k) g, rw (u, lt-leb budget (p .steps) k) f, s)
+      → OnceGone budget p ring cells tape r ring′ cells′
+  unfolding progressOnce worldOnce
+  once-step r ring′ cells′ h k g f s =
+      let u : queueEmpty (p .state) ≡ false = sym is-t ∙ h in
+      (rw (u, lt-leb budget (p .steps) k) g, rw (u, lt-leb budget (p .steps) k) f, s)
 
 -- a step's answer, and how far the run then is
-ends-in : (p : Progress) (w : World) (s : StepEnd) (a : Stepped) (ring′ cells′ : List ℕ) → EndsAs w s a ring′ cells′ → (why : Refusal) (t : State) → a ≡ St.Refused why t → (s ≡ refused why) × (w .state ≡ t)
-ends-in p w (refused why′) a ring′ cells′ e why t f = let k : St.Refused why′ (w .state) ≡ St.Refused why t = sym (e .0) ∙ f in let j : why′ ≡ why = cc in (ap refused j, cc)
-ends-in p w (finished next evals bytes) a ring′ cells′ e why t f = let k : St.Finished (next .state) evals bytes ≡ St.Refused why t = sym (e .0) ∙ f in let z : _≡_ {A = ℕ} 0 1 = cc in absurd (omega arith)
+ends-in : (p : Progress) (w : World) (s : StepEnd) (a : StepAnswer) (ring′ cells′ : List ℕ) → EndsAs w s a ring′ cells′
+    → (why : Refusal) (t : State) → a ≡ St.Refused why t → (s ≡ refused why) × (w .state ≡ t)
+ends-in p w (refused why′) a ring′ cells′ e why t f =
+    let k : St.Refused why′ (w .state) ≡ St.Refused why t = sym (e .0) ∙ f in
+    let j : why′ ≡ why = cc in
+    (ap refused j, cc)
+ends-in p w (finished next evals bytes) a ring′ cells′ e why t f =
+    let k : St.Finished (next .state) evals bytes ≡ St.Refused why t = sym (e .0) ∙ f in
+    let z : _≡_ {A = ℕ} 0 1 = cc in
+    absurd (omega arith)
 
 -- the part of the tape from here on is its rest
-pub step-rest : (p : Progress) (ring cells tape : List ℕ) (a : Stepped) (ring′ cells′ : List ℕ)
+pub step-rest : (p : Progress) (ring cells tape : List ℕ) (a : StepAnswer) (ring′ cells′ : List ℕ)
     → EndsAs (worldOf (p .state) ring cells) (tapeStepOf (worldOf (p .state) ring cells) (take (length tape - p .tape) (drop (p .tape) tape))) a ring′ cells′
     → EndsAs (worldOf (p .state) ring cells) (nextStep p ring cells tape) a ring′ cells′
 step-rest p ring cells tape a ring′ cells′ h = rw (rest-all tape (p .tape)) at h
 
-module _ (p : Progress) (ring cells tape : List ℕ) (a : Stepped) (ring′ cells′ : List ℕ) (ends : EndsAs (worldOf (p .state) ring cells) (nextStep p ring cells tape) a ring′ cells′) where
+module _ (p : Progress) (ring cells tape : List ℕ) (a : StepAnswer) (ring′ cells′ : List ℕ)
+    (ends : EndsAs (worldOf (p .state) ring cells) (nextStep p ring cells tape) a ring′ cells′) where
   pub step-stop : (why : Refusal) (t : State) (r : Progress) → a ≡ St.Refused why t → r ≡ halted p (E.Stop why) → SoundByUse (length ring) (p .state)
-      → (r ≡ progressAfter p (nextStep p ring cells tape)) × (worldOf (r .state) ring′ cells′ ≡ worldAfter (worldOf (p .state) ring cells) (nextStep p ring cells tape)) × SoundByUse (length ring′) (r .state)
+      → Tried p (worldOf (p .state) ring cells) (nextStep p ring cells tape) r ring′ cells′
   step-stop why t r f g h =
       let s = ends-in p (worldOf (p .state) ring cells) (nextStep p ring cells tape) a ring′ cells′ ends why t f .0 in
       (g ∙ sym (ap (progressAfter p) s), rw (g, ends .1, ends .2, s), rw (g, ends .1, s) h)
 
   pub step-on : (t : State) (evals bytes : ℕ) (r : Progress) → a ≡ St.Finished t evals bytes → r ≡ stepped p t evals bytes → LastHeld (p .state .front)
-      → (r ≡ progressAfter p (nextStep p ring cells tape)) × (worldOf (r .state) ring′ cells′ ≡ worldAfter (worldOf (p .state) ring cells) (nextStep p ring cells tape)) × SoundByUse (length ring′) (r .state)
+      → Tried p (worldOf (p .state) ring cells) (nextStep p ring cells tape) r ring′ cells′
   step-on t evals bytes r f g held = go (nextStep p ring cells tape) refl ends
     where
       go : (s : StepEnd) → nextStep p ring cells tape ≡ s → EndsAs (worldOf (p .state) ring cells) s a ring′ cells′
-          → (r ≡ progressAfter p s) × (worldOf (r .state) ring′ cells′ ≡ worldAfter (worldOf (p .state) ring cells) s) × SoundByUse (length ring′) (r .state)
-      go (refused why) h e = let k : St.Refused why (p .state) ≡ St.Finished t evals bytes = sym (e .0) ∙ f in let z : _≡_ {A = ℕ} 0 1 = cc in absurd (omega arith)
+          → Tried p (worldOf (p .state) ring cells) s r ring′ cells′
+      go (refused why) h e =
+          let k : St.Refused why (p .state) ≡ St.Finished t evals bytes = sym (e .0) ∙ f in
+          let z : _≡_ {A = ℕ} 0 1 = cc in
+          absurd (omega arith)
       go (finished next evals′ bytes′) h e =
           let k : St.Finished (next .state) evals′ bytes′ ≡ St.Finished t evals bytes = sym (e .0) ∙ f in
           let x : next .state ≡ t = cc in
           let y : evals′ ≡ evals = cc in
           let z : bytes′ ≡ bytes = cc in
-          (rw (g, x, y, z), rw (g, ← x, e .1, e .2), rw (g, ← x, e .1) (step-sound true (worldOf (p .state) ring cells) (drop (p .tape) tape) next evals′ bytes′ held h))
+          let sound = step-sound true (worldOf (p .state) ring cells) (drop (p .tape) tape) next evals′ bytes′ held h in
+          (rw (g, x, y, z), rw (g, ← x, e .1, e .2), rw (g, ← x, e .1) sound)
 
   -- what it took is small
   pub step-sums : (t : State) (evals bytes : ℕ) → a ≡ St.Finished t evals bytes → (bytes ≤ length (drop (p .tape) tape)) × (evals ≤ 24)
   step-sums t evals bytes f = go (nextStep p ring cells tape) refl ends
     where
-      go : (s : StepEnd) → nextStep p ring cells tape ≡ s → EndsAs (worldOf (p .state) ring cells) s a ring′ cells′ → (bytes ≤ length (drop (p .tape) tape)) × (evals ≤ 24)
-      go (refused why) h e = let k : St.Refused why (p .state) ≡ St.Finished t evals bytes = sym (e .0) ∙ f in let z : _≡_ {A = ℕ} 0 1 = cc in absurd (omega arith)
+      go : (s : StepEnd) → nextStep p ring cells tape ≡ s → EndsAs (worldOf (p .state) ring cells) s a ring′ cells′
+          → (bytes ≤ length (drop (p .tape) tape)) × (evals ≤ 24)
+      go (refused why) h e =
+          let k : St.Refused why (p .state) ≡ St.Finished t evals bytes = sym (e .0) ∙ f in
+          let z : _≡_ {A = ℕ} 0 1 = cc in
+          absurd (omega arith)
       go (finished next evals′ bytes′) h e =
           let k : St.Finished (next .state) evals′ bytes′ ≡ St.Finished t evals bytes = sym (e .0) ∙ f in
           let y : evals′ ≡ evals = cc in
@@ -326,7 +391,7 @@ module _ (p : Progress) (ring cells tape : List ℕ) (a : Stepped) (ring′ cell
 
 -- the ending of an empty queue, by what is seen of given-up cells
 seen-abandoned : (p : Chosen) (cells : List ℕ) → leb (pixelCount p) (length cells) ≡ true
-    → someSeen (p .width) (p .height) (wholePicture (p .width) (p .height)) K.Abandoned cells ≡ seenIf (someOf isGivenUp (pixelCells p cells))
+    → someSeen (p .width) (p .height) (wholePicture (p .width) (p .height)) K.GivenUp cells ≡ seenIf (someOf isGivenUp (pixelCells p cells))
 unfolding someSeen ofKind pictureReady inPicture
 seen-abandoned p cells h =
     let a = le-leb 0 (p .width) (omega arith) in
@@ -335,7 +400,7 @@ seen-abandoned p cells h =
     let d = le-leb (p .height) (p .height) (omega arith) in
     rw (a, b, c, d, h)
 
-abbrev endingSeen : Seen → Ending
+abbrev pub endingSeen : Seen → Ending
 endingSeen S.Yes = E.Limit
 endingSeen S.No = E.Done
 endingSeen S.Outside = E.Done
@@ -345,9 +410,9 @@ seen-ending true = refl
 seen-ending false = refl
 
 pub ending-as : (p : Chosen) (cells : List ℕ) (x : PixelRange) (a v : Seen) → leb (pixelCount p) (length cells) ≡ true → x ≡ wholePicture (p .width) (p .height)
-    → a ≡ someSeen (p .width) (p .height) x K.Abandoned cells → a ≡ v → endingSeen v ≡ emptyEnding p cells
+    → a ≡ someSeen (p .width) (p .height) x K.GivenUp cells → a ≡ v → endingSeen v ≡ emptyEnding p cells
 ending-as p cells x a v h e f g =
-    ap endingSeen (sym g ∙ f ∙ ap (λ (r : PixelRange). someSeen (p .width) (p .height) r K.Abandoned cells) e ∙ seen-abandoned p cells h)
+    ap endingSeen (sym g ∙ f ∙ ap (λ (r : PixelRange). someSeen (p .width) (p .height) r K.GivenUp cells) e ∙ seen-abandoned p cells h)
     ∙ seen-ending (someOf isGivenUp (pixelCells p cells))
 
 -- the run itself
@@ -364,13 +429,16 @@ module _ (budget : ℕ) (s : State) (ring cells tape : List ℕ) (t : Bool) (is-
         let l : length cells < pixelCount (s .chosen) = rw is-n at k in
         rw (u, lt-leb (pixelCount (s .chosen)) (length cells) l) (refl, refl, refl)
 
-    pub run-sound : soundRecord (length ring) s ≡ true
+    run-sound : soundRecord (length ring) s ≡ true
     run-sound = sym is-t ∙ granted t h
 
-    pub run-enough : n ≤ length cells → leb (pixelCount (s .chosen)) (length cells) ≡ true
+    run-enough : n ≤ length cells → leb (pixelCount (s .chosen)) (length cells) ≡ true
     run-enough k = le-leb (pixelCount (s .chosen)) (length cells) (rw is-n at k)
 
-    pub run-done : n ≤ length cells → (p : Progress) (r : Ran) (ring′ cells′ : List ℕ) → RunTo (runFrom budget (worldOf s ring cells) tape) p ring′ cells′
+    pub may-begin : n ≤ length cells → (leb (pixelCount (s .chosen)) (length cells) ≡ true) × (soundRecord (length ring) s ≡ true)
+    may-begin k = (run-enough k, run-sound)
+
+    pub run-done : n ≤ length cells → (p : Progress) (r : RunAnswer) (ring′ cells′ : List ℕ) → RunTo (runFrom budget (worldOf s ring cells) tape) p ring′ cells′
         → r ≡ A.Ended (p .state) (p .steps) (p .evaluations) (p .tape) (p .ending)
         → RunsAs (worldOf s ring cells) (runOf budget (worldOf s ring cells) tape) r ring′ cells′
     unfolding runOf

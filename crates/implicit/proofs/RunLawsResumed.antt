@@ -54,7 +54,7 @@ not-more : (w : World) {X : Type 0} → emptyEnding (w .state .chosen) (w .cells
 not-more w e = cases (someOf isGivenUp (pixelCells (w .state .chosen) (w .cells))) (λ t. limit-not-more (rw t at e)) (λ t. done-not-more (rw t at e))
 
 gone-resumed : (a b : ℕ) (w : World) (tape : List ℕ) (s : StepEnd)
-    → ((v : World) (n : ℕ) → runFrom a v (drop n tape) .ending ≡ E.More → runFrom (a + b) v (drop n tape) ≡ joined (runFrom a v (drop n tape)) (resumed b (runFrom a v (drop n tape)) (drop n tape)))
+    → ((v : World) (n : ℕ) → let r = runFrom a v (drop n tape) in r .ending ≡ E.More → runFrom (a + b) v (drop n tape) ≡ joined r (resumed b r (drop n tape)))
     → (let r = goneOn w s (λ next bytes. runFrom a next (drop bytes tape)) in
     r .ending ≡ E.More → goneOn w s (λ next bytes. runFrom (a + b) next (drop bytes tape)) ≡ joined r (resumed b r tape))
 gone-resumed a b w tape (refused why) f e = let z : _≡_ {A = ℕ} 0 1 = cc in absurd (omega arith)
@@ -65,7 +65,8 @@ gone-resumed a b w tape (finished next evals bytes) f e =
     ∙ sym (joined-step evals bytes r (runFrom b (r .world) (drop (bytes + r .tape) tape)))
 
 -- a run of a + b steps is one of a, if that ended for its budget, and one of b on what it left, from the tape's position on
-pub run-resumed : (a b : ℕ) (w : World) (tape : List ℕ) → runFrom a w tape .ending ≡ E.More → runFrom (a + b) w tape ≡ joined (runFrom a w tape) (resumed b (runFrom a w tape) tape)
+pub run-resumed : (a b : ℕ) (w : World) (tape : List ℕ) → runFrom a w tape .ending ≡ E.More
+    → runFrom (a + b) w tape ≡ joined (runFrom a w tape) (resumed b (runFrom a w tape) tape)
 unfolding runFrom
 run-resumed zero b w tape e =
     let z : 0 + b ≡ b = omega arith in

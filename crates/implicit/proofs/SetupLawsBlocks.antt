@@ -10,8 +10,10 @@ use lib.Dec.{lit<, leb, ltb}
 use lib.ListN.{length}
 use borrow.Author.Tests.{lt-ltb, le-leb}
 use Rattle.base.proofs.Test.{and-both, cases}
+use Rattle.base.specs.Lists.{Every}
 use Rattle.coordinate.specs.declared.Coordinate.{Coordinate}
-use Rattle.coordinate.specs.Axis.{ordinaryFloor, inRange, inside, covers1}
+use Rattle.coordinate.specs.Axis.{ordinaryFloor, inRange, inside}
+use Rattle.coordinate.proofs.Covering.{covers1}
 use Rattle.coordinate.specs.Lone.{legal}
 use Rattle.coordinate.proofs.PixelLaws.{Ranged, places-one}
 use Rattle.coordinate.proofs.CoverLaws.{root-covers}
@@ -19,23 +21,22 @@ use Rattle.interval.specs.declared.Interval.{Interval}
 use Rattle.interval.specs.Bounds.{InFormat, legalInterval, putInterval}
 use Rattle.interval.specs.Answers.{piecesOf}
 use Rattle.interval.proofs.Legality.{put-legal, put-again}
-use Rattle.interval.proofs.ProperPieces.{Proper, Each, few-count, put-format}
+use Rattle.interval.proofs.ProperPieces.{Proper, few-count, put-format}
 use Rattle.interval.proofs.CutAnswers.{Pieced, first-good}
 use Rattle.queue.specs.declared.Block.{Block}
 use Rattle.queue.specs.declared.directions.Direction.{Direction}
 use Rattle.queue.specs.declared.directions.Direction.the-variants as D
 use Rattle.queue.specs.Directions.{inUse, directions, directionAt}
-use Rattle.queue.specs.Block.{wholeLine, isInteger, parameterOf, settledAt}
+use Rattle.queue.specs.Block.{wholeLine, isInteger, parameterOf, asQueuedAt}
 use Rattle.queue.specs.Code.{legalIfUsed}
 use Rattle.queue.proofs.RoundTrip.{ParameterFine, CanQueue}
 use Rattle.queue.proofs.KeptLaws.{line-fine, fine-legal}
-use Rattle.queue.proofs.QueueLaws.{Every}
 use Rattle.decide.specs.declared.Chosen.{Chosen}
 use Rattle.decide.specs.Damage.{undamaged, directionRight, directionOf, cuttable}
 use Rattle.decide.proofs.DamageLaws.{undamaged-is}
 use Rattle.implicit.specs.declared.state.Ranges.{Ranges}
 use Rattle.implicit.specs.Setup.{startLevel, rootBlock, firstBlocks, rangesLegal}
-use Rattle.implicit.specs.Product.{piecesKept, productOf, pieceCount, productCount}
+use Rattle.implicit.specs.SetupComputed.{piecesKept, productOf, pieceCount, productCount}
 use Rattle.implicit.proofs.SetupLawsLevel.{level-most, level-width, level-height}
 use Rattle.implicit.proofs.SetupLawsProduct.{nine, more, most}
 use Rattle.implicit.proofs.SetupLawsFirst.{every-each, legal-ranges, kept-used, kept-unused, cutM, cutN, cutTheta, productList, first-is, count-is}
@@ -60,11 +61,12 @@ pub record FirstBlock (p : Chosen) (b : Block) : Type 0 where
 
 -- THE PIECES
 
-fine-root : (used integer : Bool) (x : Interval) → InFormat x → not used || legalInterval x integer ≡ true → ParameterFine used integer (settledAt used x)
-fine-root true integer x f e = record { proper = λ q. record { legal = put-legal x integer ∙ e; put = put-again x; format = put-format x f }; line = λ q. absurd (true≢false q) }
+fine-root : (used integer : Bool) (x : Interval) → InFormat x → not used || legalInterval x integer ≡ true → ParameterFine used integer (asQueuedAt used x)
+fine-root true integer x f e =
+    record { proper = λ q. record { legal = put-legal x integer ∙ e; put = put-again x; format = put-format x f }; line = λ q. absurd (true≢false q) }
 fine-root false integer x f e = record { proper = λ q. absurd (false≢true q); line = λ q. refl }
 
-each-fine : (used integer : Bool) (ps : List Interval) → used ≡ true → Each (Proper integer) ps → Each (ParameterFine used integer) ps
+each-fine : (used integer : Bool) (ps : List Interval) → used ≡ true → Every (Proper integer) ps → Every (ParameterFine used integer) ps
 each-fine used integer [] u h = tt
 each-fine used integer (p ∷ ps) u h = (record { proper = λ q. h .0; line = λ q. absurd (true≢false (sym u ∙ q)) }, each-fine used integer ps u (h .1))
 
@@ -74,14 +76,18 @@ module _ (set : ℕ) (d : Direction) (x : Interval) (f : InFormat x) (h : legalI
       let e : legalInterval x (isInteger d) ≡ true = rw u at h in
       subst (Pieced (isInteger d)) (sym (kept-used set d x u h)) (first-good (putInterval x) (isInteger d) (put-format x f) (put-legal x (isInteger d) ∙ e))
 
-  kept-fine : Each (ParameterFine (inUse set d) (isInteger d)) (piecesOf (piecesKept set d x))
-  kept-fine = cases (inUse set d) (λ u. each-fine (inUse set d) (isInteger d) (piecesOf (piecesKept set d x)) u (first-kept u .proper)) (λ u. subst (Each (ParameterFine (inUse set d) (isInteger d))) (sym (kept-unused set d x u)) (unused u, tt))
+  kept-fine : Every (ParameterFine (inUse set d) (isInteger d)) (piecesOf (piecesKept set d x))
+  kept-fine =
+      cases (inUse set d) (λ u. each-fine (inUse set d) (isInteger d) (piecesOf (piecesKept set d x)) u (first-kept u .proper))
+      (λ u. subst (Every (ParameterFine (inUse set d) (isInteger d))) (sym (kept-unused set d x u)) (unused u, tt))
     where
       unused : inUse set d ≡ false → ParameterFine (inUse set d) (isInteger d) wholeLine
       unused u = record { proper = λ q. absurd (false≢true (sym u ∙ q)); line = λ q. refl }
 
   kept-count : (0 < pieceCount (piecesKept set d x)) × (pieceCount (piecesKept set d x) ≤ 3)
-  kept-count = cases (inUse set d) (λ u. few-count (piecesOf (piecesKept set d x)) (first-kept u .few)) (λ u. subst (λ (l : List Interval). (0 < length l) × (length l ≤ 3)) (sym (kept-unused set d x u)) (omega arith, omega arith))
+  kept-count =
+      cases (inUse set d) (λ u. few-count (piecesOf (piecesKept set d x)) (first-kept u .few))
+      (λ u. subst (λ (l : List Interval). (0 < length l) × (length l ≤ 3)) (sym (kept-unused set d x u)) (omega arith, omega arith))
 
 -- THE BLOCKS
 
@@ -106,11 +112,14 @@ module _ (p : Chosen) (r : Ranges) (held : RangesHeld r) (ok : rangesLegal (p .s
       let g = legal-ranges (p .set) r ok in
       let f = productOf p r in
       let a₁ = every-each (FirstBlock p) (FirstBlock p) (ParameterFine (inUse (p .set) D.M) true) D.M (piecesOf (f .m)) (f .root ∷ [])
-      (λ b q u s. record { x = u .x; y = u .y; dir = u .dir; m = s; n = u .n; theta = u .theta; t = u .t }) (kept-fine (p .set) D.M (r .m) (held .0) (g .m)) (root-first, tt) in
+      (λ b q u s. record { x = u .x; y = u .y; dir = u .dir; m = s; n = u .n; theta = u .theta; t = u .t })
+      (kept-fine (p .set) D.M (r .m) (held .0) (g .m)) (root-first, tt) in
       let a₂ = every-each (FirstBlock p) (FirstBlock p) (ParameterFine (inUse (p .set) D.N) true) D.N (piecesOf (f .n)) (cutM f)
-      (λ b q u s. record { x = u .x; y = u .y; dir = u .dir; m = u .m; n = s; theta = u .theta; t = u .t }) (kept-fine (p .set) D.N (r .n) (held .1) (g .n)) a₁ in
+      (λ b q u s. record { x = u .x; y = u .y; dir = u .dir; m = u .m; n = s; theta = u .theta; t = u .t })
+      (kept-fine (p .set) D.N (r .n) (held .1) (g .n)) a₁ in
       let a₃ = every-each (FirstBlock p) (FirstBlock p) (ParameterFine (inUse (p .set) D.Theta) true) D.Theta (piecesOf (f .theta)) (cutN f)
-      (λ b q u s. record { x = u .x; y = u .y; dir = u .dir; m = u .m; n = u .n; theta = s; t = u .t }) (kept-fine (p .set) D.Theta (r .theta) (held .2) (g .theta)) a₂ in
+      (λ b q u s. record { x = u .x; y = u .y; dir = u .dir; m = u .m; n = u .n; theta = s; t = u .t })
+      (kept-fine (p .set) D.Theta (r .theta) (held .2) (g .theta)) a₂ in
       every-each (FirstBlock p) (FirstBlock p) (ParameterFine (inUse (p .set) D.T) false) D.T (piecesOf (f .t)) (cutTheta f)
       (λ b q u s. record { x = u .x; y = u .y; dir = u .dir; m = u .m; n = u .n; theta = u .theta; t = s }) (kept-fine (p .set) D.T (r .t) (held .3) (g .t)) a₃
 
@@ -130,7 +139,10 @@ module _ (p : Chosen) (r : Ranges) (held : RangesHeld r) (ok : rangesLegal (p .s
       let d = kept-count (p .set) D.T (r .t) (held .3) (g .t) in
       let ab = pieceCount (f .m) * pieceCount (f .n) in
       rw (first-is p r ok, count-is f)
-      (mul-pos (mul-pos (mul-pos (a .0) (b .0)) (c .0)) (d .0), most (ab * pieceCount (f .theta)) (pieceCount (f .t)) (more ab (pieceCount (f .theta)) (nine (pieceCount (f .m)) (pieceCount (f .n)) (a .1) (b .1)) (c .1)) (d .1))
+      let nines = nine (pieceCount (f .m)) (pieceCount (f .n)) (a .1) (b .1) in (
+        mul-pos (mul-pos (mul-pos (a .0) (b .0)) (c .0)) (d .0),
+        most (ab * pieceCount (f .theta)) (pieceCount (f .t)) (more ab (pieceCount (f .theta)) nines (c .1)) (d .1),
+      )
 
 -- ONE OF THEM
 
@@ -153,7 +165,9 @@ unfolding inRange
 start-legal p =
     let l = level-most p in
     and-both (leb 16 (48 + startLevel p) && ltb (48 + startLevel p) 64) (ltb 0 (2 ^ 47))
-    (and-both (leb 16 (48 + startLevel p)) (ltb (48 + startLevel p) 64) (le-leb 16 (48 + startLevel p) (omega arith)) (lt-ltb (48 + startLevel p) 64 (omega arith))) refl
+    (and-both (leb 16 (48 + startLevel p)) (ltb (48 + startLevel p) 64) (le-leb 16 (48 + startLevel p) (omega arith))
+    (lt-ltb (48 + startLevel p) 64 (omega arith)))
+    refl
 
 start-inside : (p : Chosen) (side : ℕ) → 1 ≤ side → side ≤ 2 ^ startLevel p → inside side (48 + startLevel p) 0 ≡ true
 unfolding inside

@@ -10,26 +10,27 @@ use lib.ListN.{length, getD, length-append, length-map, List·getD-append}
 use lib.Seq.{getD-append-add}
 use borrow.Author.Tests.{leb-true}
 use Rattle.base.proofs.Test.{by-test, and-left, and-right}
+use Rattle.base.specs.Lists.{Every}
+use Rattle.base.proofs.ListLaws.{every-append, every-also}
 use Rattle.interval.specs.declared.Interval.{Interval}
-use Rattle.interval.specs.declared.Pieces.{Pieces}
+use Rattle.interval.specs.declared.PiecesAnswer.{PiecesAnswer}
 use Rattle.interval.specs.Bounds.{legalInterval, putInterval, sameInterval}
 use Rattle.interval.specs.Cuts.{widthIs, keepIf, unlikeNext, deduped, legalThree, spanOf, firstCut}
-use Rattle.interval.specs.Answers.{piecesFrom, piecesOf}
+use Rattle.interval.specs.Answers.{piecesOf}
 use Rattle.queue.specs.declared.Block.{Block}
 use Rattle.queue.specs.declared.directions.Direction.{Direction}
 use Rattle.queue.specs.declared.directions.Direction.the-variants as D
 use Rattle.queue.specs.Directions.{inUse}
-use Rattle.queue.specs.Block.{wholeLine, isInteger, parameterOf, withParameter, settledAt}
+use Rattle.queue.specs.Block.{wholeLine, isInteger, parameterOf, withParameter, asQueuedAt}
 use Rattle.queue.specs.Code.{legalIfUsed, parametersLegal}
+use Rattle.interval.proofs.ProperPieces.{pieces-back}
 use Rattle.queue.proofs.QueueableLaws.{each-legal}
-use Rattle.interval.proofs.ProperPieces.{Each}
-use Rattle.queue.proofs.QueueLaws.{Every}
 use Rattle.decide.specs.declared.Chosen.{Chosen}
 use Rattle.decide.specs.Damage.{legalSet}
 use Rattle.implicit.specs.declared.state.Ranges.{Ranges}
-use Rattle.implicit.specs.declared.begin.Product.{Product}
+use Rattle.implicit.specs.declared.first.Product.{Product}
 use Rattle.implicit.specs.Setup.{rootBlock, eachCutFirst, cutFirstIn, firstBlocks, rangesLegal}
-use Rattle.implicit.specs.Product.{piecesKept, productOf, pieceCount, pieceAt, productCount, productAt}
+use Rattle.implicit.specs.SetupComputed.{piecesKept, productOf, pieceCount, pieceAt, productCount, productAt}
 use Rattle.implicit.proofs.SetupLawsProduct.{some}
 
 -- EACH BLOCK WITH EACH PIECE
@@ -43,7 +44,8 @@ pub length-each : (d : Direction) (ps : List Interval) (l : List Block) → leng
 unfolding eachWith
 length-each d ps [] = sym (zero-mul (length ps))
 length-each d ps (b ∷ l) =
-    omega (arith, length-append (map (withParameter b d) ps) (eachWith d ps l), length-map ps (withParameter b d), length-each d ps l, suc-mul (length l) (length ps))
+    omega
+    (arith, length-append (map (withParameter b d) ps) (eachWith d ps l), length-map ps (withParameter b d), length-each d ps l, suc-mul (length l) (length ps))
 
 -- the i-th of them
 at-map : (f : Interval → Block) (w : Interval) (z : Block) (ps : List Interval) (i : ℕ) → i < length ps → getD (map f ps) i z ≡ f (getD ps i w)
@@ -75,25 +77,20 @@ at-each d ps w z (b ∷ l) i h k = elim (decLt i (length ps)) [
       (at-each d ps w z l (i - length ps) h (omega (arith, k, m, suc-mul (length l) (length ps))))
 ]
 
-both-every : (P : Block → Type 0) (q r : List Block) → Every P q → Every P r → Every P (q ++ r)
-both-every P [] r h k = k
-both-every P (b ∷ q) r h k = (h .0, both-every P q r (h .1) k)
-
 -- what holds of every block of a list and is kept by every piece holds of each with each
-every-map : (Q : Block → Type 0) (S : Interval → Type 0) (f : Interval → Block) (ps : List Interval) → ((p : Interval) → S p → Q (f p)) → Each S ps → Every Q (map f ps)
+every-map : (Q : Block → Type 0) (S : Interval → Type 0) (f : Interval → Block) (ps : List Interval)
+    → ((p : Interval) → S p → Q (f p)) → Every S ps → Every Q (map f ps)
 every-map Q S f [] g s = tt
 every-map Q S f (p ∷ ps) g s = (g p (s .0), every-map Q S f ps g (s .1))
 
-pub every-each : (P Q : Block → Type 0) (S : Interval → Type 0) (d : Direction) (ps : List Interval) (l : List Block) → ((b : Block) (p : Interval) → P b → S p → Q (withParameter b d p))
-    → Each S ps → Every P l → Every Q (eachWith d ps l)
+pub every-each : (P Q : Block → Type 0) (S : Interval → Type 0) (d : Direction) (ps : List Interval) (l : List Block)
+    → ((b : Block) (p : Interval) → P b → S p → Q (withParameter b d p))
+    → Every S ps → Every P l → Every Q (eachWith d ps l)
 unfolding eachWith
 every-each P Q S d ps [] f s h = tt
 every-each P Q S d ps (b ∷ l) f s h =
-    both-every Q (map (withParameter b d) ps) (eachWith d ps l) (every-map Q S (withParameter b d) ps (λ p. f b p (h .0)) s) (every-each P Q S d ps l f s (h .1))
-
-pub every-sub : (P Q : Block → Type 0) → ((b : Block) → P b → Q b) → (l : List Block) → Every P l → Every Q l
-every-sub P Q f [] h = tt
-every-sub P Q f (b ∷ l) h = (f b (h .0), every-sub P Q f l (h .1))
+    every-append Q (map (withParameter b d) ps) (eachWith d ps l) (every-map Q S (withParameter b d) ps (λ p. f b p (h .0)) s)
+    (every-each P Q S d ps l f s (h .1))
 
 -- of one of them
 pub every-at : (P : Block → Type 0) (z : Block) (l : List Block) (i : ℕ) → Every P l → i < length l → P (getD l i z)
@@ -107,12 +104,15 @@ every-at P z (b ∷ l) (suc i) h k = every-at P z l i (h .1) (omega arith)
 keep-most : (f : Interval → Bool) (l : List Interval) → length (keepIf f l) ≤ length l
 unfolding keepIf
 keep-most f [] = omega arith
-keep-most f (p ∷ l) = by-test (λ m. length m ≤ suc (length l)) (f p) (p ∷ keepIf f l) (keepIf f l) (λ e. omega (arith, keep-most f l)) (λ e. omega (arith, keep-most f l))
+keep-most f (p ∷ l) =
+    by-test (λ m. length m ≤ suc (length l)) (f p) (p ∷ keepIf f l) (keepIf f l) (λ e. omega (arith, keep-most f l)) (λ e. omega (arith, keep-most f l))
 
 unlike-most : (p : Interval) (l : List Interval) → length (unlikeNext p l) ≤ length l
 unfolding unlikeNext
 unlike-most p [] = omega arith
-unlike-most p (q ∷ l) = by-test (λ m. length m ≤ suc (length l)) (sameInterval p q) (unlikeNext p l) (q ∷ unlikeNext q l) (λ e. omega (arith, unlike-most p l)) (λ e. omega (arith, unlike-most q l))
+unlike-most p (q ∷ l) =
+    by-test (λ m. length m ≤ suc (length l)) (sameInterval p q) (unlikeNext p l) (q ∷ unlikeNext q l) (λ e. omega (arith, unlike-most p l))
+    (λ e. omega (arith, unlike-most q l))
 
 repeats-most : (l : List Interval) → length (deduped l) ≤ length l
 repeats-most [] = omega arith
@@ -129,13 +129,6 @@ first-most x true =
     omega (arith, repeats-most l, keep-most (λ p. not (widthIs 1 p)) (legalThree x), three-most x)
 first-most x false = three-most x
 
-pieces-back : (l : List Interval) → length l ≤ 3 → piecesOf (piecesFrom l) ≡ l
-pieces-back [] h = refl
-pieces-back (p ∷ []) h = refl
-pieces-back (p ∷ q ∷ []) h = refl
-pieces-back (p ∷ q ∷ r ∷ []) h = refl
-pieces-back (p ∷ q ∷ r ∷ o ∷ l) h = absurd (omega arith)
-
 -- the pieces kept of a range that is legal or not used
 pub kept-used : (set : ℕ) (d : Direction) (range : Interval) → inUse set d ≡ true → legalIfUsed set d range ≡ true
     → piecesOf (piecesKept set d range) ≡ firstCut (putInterval range) (isInteger d)
@@ -150,7 +143,7 @@ kept-unused set d range u = rw u
 
 -- ONE CUT
 
-with-same : (b : Block) (d : Direction) → withParameter b d (parameterOf b d) ≡ b
+pub with-same : (b : Block) (d : Direction) → withParameter b d (parameterOf b d) ≡ b
 with-same b D.XY = refl
 with-same b D.M = refl
 with-same b D.N = refl
@@ -172,7 +165,8 @@ each-line d [] h = refl
 each-line d (b ∷ l) h = ap₂ _∷_ (sym (with-same b d) ∙ ap (withParameter b d) (h .0)) (each-line d l (h .1))
 
 -- a list of blocks that were not cut along a parameter, cut first along it where it is used
-pub one-cut : (set : ℕ) (d : Direction) (range : Interval) (l : List Block) → legalIfUsed set d range ≡ true → Every (λ b. parameterOf b d ≡ settledAt (inUse set d) range) l
+pub one-cut : (set : ℕ) (d : Direction) (range : Interval) (l : List Block) → legalIfUsed set d range ≡ true
+    → Every (λ b. parameterOf b d ≡ asQueuedAt (inUse set d) range) l
     → cond (inUse set d) (eachCutFirst d l) l ≡ eachWith d (piecesOf (piecesKept set d range)) l
 one-cut set d range l h a = go (inUse set d) refl
   where
@@ -209,30 +203,36 @@ cutTheta f = eachWith D.Theta (piecesOf (f .theta)) (cutN f)
 abbrev pub productList : Product → List Block
 productList f = eachWith D.T (piecesOf (f .t)) (cutTheta f)
 
-each-any : (ps : List Interval) → Each (λ p. Unit {0}) ps
+each-any : (ps : List Interval) → Every (λ p. Unit {0}) ps
 each-any [] = tt
 each-any (p ∷ ps) = (tt, each-any ps)
 
 module _ (p : Chosen) (r : Ranges) where
   -- the blocks that are not cut along these parameters yet
   abbrev UncutT : Block → Type 0
-  UncutT b = b .t ≡ settledAt (inUse (p .set) D.T) (r .t)
+  UncutT b = b .t ≡ asQueuedAt (inUse (p .set) D.T) (r .t)
 
   abbrev UncutTheta : Block → Type 0
-  UncutTheta b = (b .theta ≡ settledAt (inUse (p .set) D.Theta) (r .theta)) × UncutT b
+  UncutTheta b = (b .theta ≡ asQueuedAt (inUse (p .set) D.Theta) (r .theta)) × UncutT b
 
   abbrev UncutN : Block → Type 0
-  UncutN b = (b .n ≡ settledAt (inUse (p .set) D.N) (r .n)) × UncutTheta b
+  UncutN b = (b .n ≡ asQueuedAt (inUse (p .set) D.N) (r .n)) × UncutTheta b
 
   uncut-m : Every UncutN (cutM (productOf p r))
   unfolding productOf rootBlock
-  uncut-m = every-each UncutN UncutN (λ q. Unit {0}) D.M (piecesOf (productOf p r .m)) (rootBlock p r ∷ []) (λ b q u s. u) (each-any (piecesOf (productOf p r .m))) ((refl, (refl, refl)), tt)
+  uncut-m =
+      every-each UncutN UncutN (λ q. Unit {0}) D.M (piecesOf (productOf p r .m)) (rootBlock p r ∷ []) (λ b q u s. u)
+      (each-any (piecesOf (productOf p r .m))) ((refl, (refl, refl)), tt)
 
   uncut-n : Every UncutTheta (cutN (productOf p r))
-  uncut-n = every-each UncutN UncutTheta (λ q. Unit {0}) D.N (piecesOf (productOf p r .n)) (cutM (productOf p r)) (λ b q u s. u .1) (each-any (piecesOf (productOf p r .n))) uncut-m
+  uncut-n =
+      every-each UncutN UncutTheta (λ q. Unit {0}) D.N (piecesOf (productOf p r .n)) (cutM (productOf p r)) (λ b q u s. u .1)
+      (each-any (piecesOf (productOf p r .n))) uncut-m
 
   uncut-theta : Every UncutT (cutTheta (productOf p r))
-  uncut-theta = every-each UncutTheta UncutT (λ q. Unit {0}) D.Theta (piecesOf (productOf p r .theta)) (cutN (productOf p r)) (λ b q u s. u .1) (each-any (piecesOf (productOf p r .theta))) uncut-n
+  uncut-theta =
+      every-each UncutTheta UncutT (λ q. Unit {0}) D.Theta (piecesOf (productOf p r .theta)) (cutN (productOf p r)) (λ b q u s. u .1)
+      (each-any (piecesOf (productOf p r .theta))) uncut-n
 
   abbrev cut : Direction → List Block → List Block
   cut d l = cond (inUse (p .set) d) (eachCutFirst d l) l
@@ -243,8 +243,12 @@ module _ (p : Chosen) (r : Ranges) where
   first-is h =
       let g = legal-ranges (p .set) r h in
       let e₁ = one-cut (p .set) D.M (r .m) (rootBlock p r ∷ []) (g .m) (refl, tt) in
-      let e₂ = ap (cut D.N) e₁ ∙ one-cut (p .set) D.N (r .n) (cutM (productOf p r)) (g .n) (every-sub UncutN (λ b. b .n ≡ settledAt (inUse (p .set) D.N) (r .n)) (λ b u. u .0) (cutM (productOf p r)) uncut-m) in
-      let e₃ = ap (cut D.Theta) e₂ ∙ one-cut (p .set) D.Theta (r .theta) (cutN (productOf p r)) (g .theta) (every-sub UncutTheta (λ b. b .theta ≡ settledAt (inUse (p .set) D.Theta) (r .theta)) (λ b u. u .0) (cutN (productOf p r)) uncut-n) in
+      let e₂ =
+      ap (cut D.N) e₁ ∙ one-cut (p .set) D.N (r .n) (cutM (productOf p r)) (g .n)
+      (every-also UncutN (λ b. b .n ≡ asQueuedAt (inUse (p .set) D.N) (r .n)) (λ b u. u .0) (cutM (productOf p r)) uncut-m) in
+      let e₃ =
+      ap (cut D.Theta) e₂ ∙ one-cut (p .set) D.Theta (r .theta) (cutN (productOf p r)) (g .theta)
+      (every-also UncutTheta (λ b. b .theta ≡ asQueuedAt (inUse (p .set) D.Theta) (r .theta)) (λ b u. u .0) (cutN (productOf p r)) uncut-n) in
       ap (cut D.T) e₃ ∙ one-cut (p .set) D.T (r .t) (cutTheta (productOf p r)) (g .t) uncut-theta
 
 -- HOW MANY, AND WHICH
@@ -258,7 +262,7 @@ count-is f =
     let d = piecesOf (f .t) in
     rw (length-each D.T d (cutTheta f), length-each D.Theta c (cutN f), length-each D.N b (cutM f), length-each D.M a (f .root ∷ []), one-mul (length a))
 
-at-cut : (d : Direction) (c : Pieces) (z : Block) (l : List Block) (k : ℕ) → 0 < pieceCount c → k < length (eachWith d (piecesOf c) l)
+at-cut : (d : Direction) (c : PiecesAnswer) (z : Block) (l : List Block) (k : ℕ) → 0 < pieceCount c → k < length (eachWith d (piecesOf c) l)
     → (getD (eachWith d (piecesOf c) l) k z ≡ withParameter (getD l (k / pieceCount c) z) d (pieceAt c (k % pieceCount c))) × (k / pieceCount c < length l)
 at-cut d c z l k h i =
     let j : k < length l * pieceCount c = rw (length-each d (piecesOf c) l) at i in

@@ -13,7 +13,7 @@ use Rattle.queue.specs.declared.Block.{Block}
 use Rattle.queue.specs.declared.Last.{Last}
 use Rattle.queue.specs.declared.Appended.{Appended}
 use Rattle.queue.specs.declared.Appended.the-variants as A
-use Rattle.queue.specs.Block.{startingLast, settled, remembered}
+use Rattle.queue.specs.Block.{startingLast, asQueued, remembered}
 use Rattle.queue.specs.Code.{encode}
 use Rattle.queue.specs.Ring.{fitsRing, wrapped, stored, storedBehind}
 use Rattle.queue.specs.Queue.{codable, appended, appendedRing, queueCodes, memory}
@@ -23,10 +23,10 @@ use Rattle.queue.proofs.RoundTrip.{CanQueue, Known}
 use Rattle.queue.proofs.KeptLaws.{known-after, known-start}
 use Rattle.decide.specs.declared.Chosen.{Chosen}
 use Rattle.implicit.specs.declared.state.Ranges.{Ranges}
-use Rattle.implicit.specs.declared.begin.Product.{Product}
-use Rattle.implicit.specs.declared.begin.Behind.{Behind}
+use Rattle.implicit.specs.declared.first.Product.{Product}
+use Rattle.implicit.specs.declared.first.Behind.{Behind}
 use Rattle.implicit.specs.Setup.{firstBlocks, firstBytes, rangesLegal, startRing}
-use Rattle.implicit.specs.Product.{productOf, behindWith, behindFirst}
+use Rattle.implicit.specs.SetupComputed.{productOf, behindWith, behindFirst}
 use Rattle.implicit.proofs.SetupLawsFirst.{productList, first-is}
 
 -- ONE BLOCK WRITTEN
@@ -49,7 +49,8 @@ isDone A.NoRoom = false
 isDone A.NotCodable = false
 isDone A.Outside = false
 
-module _ (ring : List ℕ) (set : ℕ) (k : Behind) (b : Block) (can : codable set (k .back) b ≡ true) (is : settled set b ≡ b) (fits : fitsRing (length ring) 0 (k .used) ≡ true)
+module _ (ring : List ℕ) (set : ℕ) (k : Behind) (b : Block) (can : codable set (k .back) b ≡ true) (is : asQueued set b ≡ b)
+    (fits : fitsRing (length ring) 0 (k .used) ≡ true)
     (room : k .used + length (encode set (k .back) b) ≤ length ring) where
   done-is : appended (length ring) 0 (k .used) set (k .back) b ≡ A.Done (remembered b) (k .used + length (encode set (k .back) b))
   unfolding appended
@@ -81,9 +82,12 @@ pub record Queueing (set : ℕ) (bs : List Block) (ring₀ : List ℕ) (i : ℕ)
 
 -- byte 0 is the first behind none
 pub behind-none : (ring bs : List ℕ) → storedBehind ring 0 0 bs ≡ stored ring 0 bs
-behind-none ring bs = by-ltb (λ (at : ℕ). stored ring at bs ≡ stored ring 0 bs) 0 (length ring) 0 (0 - length ring) (λ h. refl) (λ h. let e : 0 - length ring ≡ 0 = omega arith in rw e)
+behind-none ring bs =
+    by-ltb (λ (at : ℕ). stored ring at bs ≡ stored ring 0 bs) 0 (length ring) 0 (0 - length ring) (λ h. refl)
+    (λ h. let e : 0 - length ring ≡ 0 = omega arith in rw e)
 
-pub queue-start : (set : ℕ) (bs : List Block) (ring : List ℕ) (back : Last) → back ≡ startingLast → Queueing set bs ring 0 (record { back = back; used = 0 }) ring
+pub queue-start : (set : ℕ) (bs : List Block) (ring : List ℕ) (back : Last) → back ≡ startingLast
+    → Queueing set bs ring 0 (record { back = back; used = 0 }) ring
 queue-start set bs ring back e =
     record {
       known = rw e known-start;
@@ -93,7 +97,8 @@ queue-start set bs ring back e =
       last = rw e;
     }
 
-module _ (set : ℕ) (bs : List Block) (ring₀ : List ℕ) (i : ℕ) (k : Behind) (ring : List ℕ) (b : Block) (here : drop i bs ≡ b ∷ drop (i + 1) bs) (fits : length (queueCodes set startingLast bs) ≤ length ring₀)
+module _ (set : ℕ) (bs : List Block) (ring₀ : List ℕ) (i : ℕ) (k : Behind) (ring : List ℕ) (b : Block)
+    (here : drop i bs ≡ b ∷ drop (i + 1) bs) (fits : length (queueCodes set startingLast bs) ≤ length ring₀)
     (q : Queueing set bs ring₀ i k ring) where
   rest : List ℕ
   rest = queueCodes set (remembered b) (drop (i + 1) bs)
@@ -108,7 +113,9 @@ module _ (set : ℕ) (bs : List Block) (ring₀ : List ℕ) (i : ℕ) (k : Behin
 
   pub queue-fits : fitsRing (length ring) 0 (k .used) ≡ true
   queue-fits =
-      and-both (ltb 0 (length ring)) (leb (k .used) (length ring)) (lt-ltb 0 (length ring) (omega (arith, queue-room, encode-some set (k .back) b))) (le-leb (k .used) (length ring) (omega (arith, queue-room)))
+      and-both (ltb 0 (length ring)) (leb (k .used) (length ring))
+      (lt-ltb 0 (length ring) (omega (arith, queue-room, encode-some set (k .back) b)))
+      (le-leb (k .used) (length ring) (omega (arith, queue-room)))
 
   pub queue-again : (k₁ : Behind) (ring₁ : List ℕ) → CanQueue set b → k₁ ≡ behindWith set k b → ring₁ ≡ storedBehind ring 0 (k .used) (encode set (k .back) b)
       → Queueing set bs ring₀ (i + 1) k₁ ring₁
@@ -124,13 +131,15 @@ module _ (set : ℕ) (bs : List Block) (ring₀ : List ℕ) (i : ℕ) (k : Behin
       })
 
 -- nothing is left
-pub queue-end : (p : Chosen) (r : Ranges) (f : Product) (ring₀ ring : List ℕ) (i : ℕ) (k : Behind) → f ≡ productOf p r → rangesLegal (p .set) r ≡ true → length (productList f) ≤ i
+pub queue-end : (p : Chosen) (r : Ranges) (f : Product) (ring₀ ring : List ℕ) (i : ℕ) (k : Behind) → f ≡ productOf p r
+    → rangesLegal (p .set) r ≡ true → length (productList f) ≤ i
     → Queueing (p .set) (productList f) ring₀ i k ring → (k ≡ behindFirst p r) × (ring ≡ startRing p r ring₀)
 unfolding behindFirst startRing firstBytes queueCodes memory stored
 queue-end p r f ring₀ ring i k e ok h q =
     let is : productList f ≡ firstBlocks p r = ap productList e ∙ sym (first-is p r ok) in
     let gone : drop i (productList f) ≡ [] = drop-of-length-le (productList f) h in
-    let used : k .used ≡ length (queueCodes (p .set) startingLast (firstBlocks p r)) = sym (add-zero (k .used)) ∙ (rw gone at (q .left)) ∙ ap (λ (l : List Block). length (queueCodes (p .set) startingLast l)) is in
+    let used : k .used ≡ length (queueCodes (p .set) startingLast (firstBlocks p r)) =
+    sym (add-zero (k .used)) ∙ (rw gone at (q .left)) ∙ ap (λ (l : List Block). length (queueCodes (p .set) startingLast l)) is in
     let back : k .back ≡ memory startingLast (firstBlocks p r) = (rw gone at (q .last)) ∙ ap (memory startingLast) is in
     let ends : ring ≡ stored ring₀ 0 (queueCodes (p .set) startingLast (productList f)) = rw gone at (q .bytes) in
     (ap₂ (λ (b : Last) (u : ℕ). behindAt b u) back used, ends ∙ ap (λ (l : List Block). stored ring₀ 0 (queueCodes (p .set) startingLast l)) is)

@@ -11,19 +11,19 @@ use Rattle.refusal.specs.declared.Refusal.the-variants as R
 use Rattle.queue.proofs.QueueAnswers.{denied, granted}
 use Rattle.decide.specs.declared.Chosen.{Chosen}
 use Rattle.decide.specs.Damage.{legalSide}
-use Rattle.implicit.specs.declared.state.Needed.{Needed}
-use Rattle.implicit.specs.declared.state.Needed.the-variants as N
+use Rattle.implicit.specs.declared.state.NeededAnswer.{NeededAnswer}
+use Rattle.implicit.specs.declared.state.NeededAnswer.the-variants as N
 use Rattle.implicit.specs.declared.state.Ranges.{Ranges}
-use Rattle.implicit.specs.declared.begin.SetupEnd.{SetupEnd}
-use Rattle.implicit.specs.declared.begin.SetupEnd.the-variants as E
+use Rattle.implicit.specs.declared.setting_up.SetupEnd.{SetupEnd}
+use Rattle.implicit.specs.declared.setting_up.SetupEnd.the-variants as E
 use Rattle.implicit.specs.Record.{pixelCount}
 use Rattle.implicit.specs.Setup.{rangesLegal, firstBytes, setupRefusal, leastRing}
 
-hasNeed : Needed → Bool
+hasNeed : NeededAnswer → Bool
 hasNeed (N.Bytes n) = true
 hasNeed (N.Refused why) = false
 
-pub needs-first : (t : Bool) (e : Needed) (n : ℕ) (why : Refusal) → cond t e (N.Refused why) ≡ N.Bytes n → (t ≡ true) × (e ≡ N.Bytes n)
+pub needs-first : (t : Bool) (e : NeededAnswer) (n : ℕ) (why : Refusal) → cond t e (N.Refused why) ≡ N.Bytes n → (t ≡ true) × (e ≡ N.Bytes n)
 unfolding hasNeed
 needs-first true e n why h = (refl, h)
 needs-first false e n why h = absurd (false≢true (ap hasNeed h))

@@ -10,24 +10,25 @@ use lib.Dec.{leb}
 use lib.ListN.{length, getD, drop, length-append, drop-of-length-le}
 use lib.Seq.{drop-cons}
 use Rattle.base.proofs.Test.{and-left, and-right}
+use Rattle.base.specs.Lists.{Every}
+use Rattle.base.proofs.ListLaws.{every-also}
 use Rattle.queue.specs.declared.Block.{Block}
 use Rattle.queue.specs.declared.Last.{Last}
 use Rattle.queue.specs.declared.Measured.{Measured}
 use Rattle.queue.specs.declared.Measured.the-variants as M
-use Rattle.queue.specs.Block.{startingLast, settled, remembered}
+use Rattle.queue.specs.Block.{startingLast, asQueued, remembered}
 use Rattle.queue.specs.Code.{encode, parametersLegal, canQueue, indicesKnown}
 use Rattle.queue.specs.Queue.{codable, measured, queueCodes}
 use Rattle.queue.proofs.QueueableLaws.{encode-few}
 use Rattle.queue.proofs.RoundTrip.{CanQueue, Known}
 use Rattle.queue.proofs.KeptLaws.{known-after, known-start, known-test, can-test}
-use Rattle.queue.proofs.QueueLaws.{Every}
 use Rattle.decide.specs.declared.Chosen.{Chosen}
 use Rattle.implicit.specs.declared.state.Ranges.{Ranges}
-use Rattle.implicit.specs.declared.begin.Product.{Product}
-use Rattle.implicit.specs.declared.begin.Behind.{Behind}
+use Rattle.implicit.specs.declared.first.Product.{Product}
+use Rattle.implicit.specs.declared.first.Behind.{Behind}
 use Rattle.implicit.specs.Setup.{firstBytes, rangesLegal}
-use Rattle.implicit.specs.Product.{productOf, productCount, productAt, behindWith}
-use Rattle.implicit.proofs.SetupLawsFirst.{every-at, every-sub, productList, first-is, count-is, at-is}
+use Rattle.implicit.specs.SetupComputed.{productOf, productCount, productAt, behindWith}
+use Rattle.implicit.proofs.SetupLawsFirst.{every-at, productList, first-is, count-is, at-is}
 use Rattle.implicit.proofs.SetupLawsBlocks.{RangesHeld, FirstBlock, product-first, first-can}
 
 -- THE BLOCKS ONE BY ONE
@@ -47,10 +48,12 @@ module _ (f : Product) (n i : ℕ) (b : Block) (counts : n ≡ productCount f) (
   block-has P h = subst P block-is (every-at P b (productList f) i h within)
 
 -- every block of a legal setup's product can be queued
-pub product-can : (p : Chosen) (r : Ranges) (f : Product) → f ≡ productOf p r → RangesHeld r → rangesLegal (p .set) r ≡ true → Every (CanQueue (p .set)) (productList f)
-product-can p r f e held ok = rw e (every-sub (FirstBlock p) (CanQueue (p .set)) (first-can p) (productList (productOf p r)) (product-first p r held ok))
+pub product-can : (p : Chosen) (r : Ranges) (f : Product) → f ≡ productOf p r → RangesHeld r → rangesLegal (p .set) r ≡ true
+    → Every (CanQueue (p .set)) (productList f)
+product-can p r f e held ok = rw e (every-also (FirstBlock p) (CanQueue (p .set)) (first-can p) (productList (productOf p r)) (product-first p r held ok))
 
-pub product-bytes : (p : Chosen) (r : Ranges) (f : Product) → f ≡ productOf p r → rangesLegal (p .set) r ≡ true → queueCodes (p .set) startingLast (productList f) ≡ firstBytes p r
+pub product-bytes : (p : Chosen) (r : Ranges) (f : Product) → f ≡ productOf p r → rangesLegal (p .set) r ≡ true
+    → queueCodes (p .set) startingLast (productList f) ≡ firstBytes p r
 unfolding firstBytes
 product-bytes p r f e ok = rw (e, first-is p r ok)
 
@@ -95,7 +98,8 @@ abbrev isBytes : Measured → Bool
 isBytes (M.Bytes count last) = true
 isBytes M.NotCodable = false
 
-module _ (set : ℕ) (k : Behind) (b : Block) (can : codable set (k .back) b ≡ true) (is : settled set b ≡ b) (a : Measured) (e : a ≡ measured set (k .back) b) where
+module _ (set : ℕ) (k : Behind) (b : Block) (can : codable set (k .back) b ≡ true) (is : asQueued set b ≡ b) (a : Measured)
+    (e : a ≡ measured set (k .back) b) where
   bytes-are : a ≡ M.Bytes (length (encode set (k .back) b)) (remembered b)
   unfolding measured
   bytes-are = e ∙ rw (can, is)
@@ -105,7 +109,8 @@ module _ (set : ℕ) (k : Behind) (b : Block) (can : codable set (k .back) b ≡
 
   pub counted-short : (count : ℕ) (last : Last) → a ≡ M.Bytes count last → count ≤ 83
   counted-short count last g =
-      rw (counted count last g) (encode-few set (k .back) b (and-left (canQueue set b) (indicesKnown (k .back)) can) (and-right (canQueue set b) (indicesKnown (k .back)) can))
+      rw (counted count last g)
+      (encode-few set (k .back) b (and-left (canQueue set b) (indicesKnown (k .back)) can) (and-right (canQueue set b) (indicesKnown (k .back)) can))
 
   pub counted-behind : (count : ℕ) (last : Last) → a ≡ M.Bytes count last → record { back = last; used = k .used + count } ≡ behindWith set k b
   unfolding behindWith
@@ -118,6 +123,7 @@ module _ (set : ℕ) (k : Behind) (b : Block) (can : codable set (k .back) b ≡
 
 -- THE RANGES
 
-pub ranges-legal-as : (set : ℕ) (r : Ranges) (fine : Bool) → fine ≡ parametersLegal set (r .m) (r .n) (r .theta) (r .t) → (leb set 63 && fine) ≡ rangesLegal set r
+pub ranges-legal-as : (set : ℕ) (r : Ranges) (fine : Bool) → fine ≡ parametersLegal set (r .m) (r .n) (r .theta) (r .t)
+    → (leb set 63 && fine) ≡ rangesLegal set r
 unfolding rangesLegal
 ranges-legal-as set r fine e = rw e

@@ -10,6 +10,7 @@ use lib.ListN.{length, take, replicate, length-append, length-replicate}
 use borrow.Author.Tests.{leb-true, ltb-true, eqb-true, lt-ltb}
 use Rattle.base.proofs.Test.{cases, by-test, and-left, and-both, cond-yes, cond-no}
 use Rattle.base.specs.Event.{queuedBy}
+use Rattle.base.proofs.ListLaws.{every-also}
 use Rattle.refusal.specs.declared.Refusal.{Refusal}
 use Rattle.refusal.specs.declared.Refusal.the-variants as R
 use Rattle.image.specs.Cell.{meanings, meaningOf}
@@ -17,8 +18,8 @@ use Rattle.queue.specs.declared.Block.{Block}
 use Rattle.queue.specs.declared.Last.{Last}
 use Rattle.queue.specs.declared.Taken.{Taken}
 use Rattle.queue.specs.declared.Taken.the-variants as T
-use Rattle.queue.specs.declared.read.Reading.{Reading}
-use Rattle.queue.specs.declared.read.Reading.the-variants as Rd
+use Rattle.queue.specs.declared.read.BlockRead.{BlockRead}
+use Rattle.queue.specs.declared.read.BlockRead.the-variants as Rd
 use Rattle.queue.specs.Block.{remembered}
 use Rattle.queue.specs.Ring.{content, fitsRing, wrapped}
 use Rattle.queue.specs.Code.{indicesKnown}
@@ -36,27 +37,27 @@ use Rattle.decide.specs.Children.{childrenOf, listed}
 use Rattle.plan.specs.AtOnce.{planListed}
 use Rattle.decide.specs.Verdict.{allLegal}
 use Rattle.decide.specs.Turn.{turned}
-use Rattle.plan.specs.Plan.{openCount, evaluations, markEvents, turnEvents, eventsFor, untouched, plannedAll, planFrom, enoughCells, planOf}
+use Rattle.plan.specs.Plan.{incompleteCount, evaluations, markEvents, turnEvents, eventsFor, untouched, plannedAll}
 use Rattle.decide.proofs.ListingLaws.{children-few}
+use Rattle.plan.proofs.StepPlan.{planFrom, enoughCells, planOf}
 use Rattle.plan.proofs.PlanLaws.{planned-length, plan-listed}
-use Rattle.plan.proofs.Each.{each-also}
 use Rattle.plan.proofs.EventLaws.{step-queues, queued-sound}
 use Rattle.implicit.specs.declared.state.State.{State}
-use Rattle.implicit.specs.declared.state.Stepped.{Stepped}
-use Rattle.implicit.specs.declared.state.Stepped.the-variants as S
-use Rattle.implicit.specs.declared.advance.Check.{Check}
-use Rattle.implicit.specs.declared.advance.Check.the-variants as C
-use Rattle.implicit.specs.declared.advance.Front.{Front}
-use Rattle.implicit.specs.declared.advance.Opened.{Opened}
-use Rattle.implicit.specs.declared.advance.Opened.the-variants as P
-use Rattle.implicit.specs.declared.advance.Size.{Size}
+use Rattle.implicit.specs.declared.state.StepAnswer.{StepAnswer}
+use Rattle.implicit.specs.declared.state.StepAnswer.the-variants as S
+use Rattle.implicit.specs.declared.stepping.Check.{Check}
+use Rattle.implicit.specs.declared.stepping.Check.the-variants as C
+use Rattle.implicit.specs.declared.stepping.Front.{Front}
+use Rattle.implicit.specs.declared.stepping.FrontAnswer.{FrontAnswer}
+use Rattle.implicit.specs.declared.stepping.FrontAnswer.the-variants as P
+use Rattle.implicit.specs.declared.stepping.Size.{Size}
 use Rattle.implicit.specs.Record.{pixelCount, soundRecord, putLast}
 use Rattle.implicit.specs.Listing.{frontOf}
-use Rattle.implicit.specs.Step.{World, worldOf, StepEnd, refused, finished, unless, enoughVerdicts, outcomesOf, eventsOf, newBlocks, newBytes, worldLeft, blockFine, judged, opened, stepWith, EndsAs}
-use Rattle.implicit.specs.ByChild.{openedAs, opening, Begun, blockCheck, sizeOf, planCheck, committed}
+use Rattle.implicit.specs.Step.{World, worldOf, StepEnd, refused, finished, unless, enoughVerdicts, outcomesOf, eventsOf, newBlocks, newBytes, worldLeft, blockSound, judged, afterTaking, stepWith, EndsAs}
+use Rattle.implicit.specs.StepComputed.{frontAs, frontAnswer, Begun, blockCheck, sizeOf, planCheck, committed}
 use Rattle.implicit.proofs.RecordLaws.{sound-record, sound-chosen}
 use Rattle.implicit.proofs.StepLawsKept.{Formats, AllReady, read-kept, block-fine}
-use Rattle.implicit.proofs.StepLawsByChild.{marksIn, turnsIn, queuedIn, planned-marks, planned-turns, marks-listed, turns-listed, queued-behind-marks, sized-is, leftBy, committed-is}
+use Rattle.implicit.proofs.StepLawsComputed.{marksIn, turnsIn, queuedIn, planned-marks, planned-turns, marks-listed, turns-listed, queued-behind-marks, sized-is, leftBy, committed-is}
 
 -- THE FRONT BLOCK THAT WAS READ
 
@@ -78,7 +79,7 @@ front-read ring head used set front b last head′ used′ e =
     (λ f. go (fits-both (length ring) head used f) (decode set front (content ring head used)) refl (rw f at e))
     (λ f. (let g : T.Outside ≡ T.Front b last head′ used′ = rw f at e in let z : _≡_ {A = ℕ} 0 1 = cc in absurd (omega arith)))
   where
-    go : (head < length ring) × (used ≤ length ring) → (r : Reading) → decode set front (content ring head used) ≡ r → takenWith (length ring) head used r ≡ T.Front b last head′ used′
+    go : (head < length ring) × (used ≤ length ring) → (r : BlockRead) → decode set front (content ring head used) ≡ r → takenWith (length ring) head used r ≡ T.Front b last head′ used′
         → FrontRead ring head used set front b last head′ used′
     go f (Rd.Read c n) d h =
         let same : c ≡ b = cc in
@@ -118,7 +119,7 @@ plan-from w b own =
     let p = w .state .chosen in
     let cs = childrenOf p b in
     let os = outcomesOf w b own in
-    let turn = turned p b (openCount os) in
+    let turn = turned p b (incompleteCount os) in
     let l = plannedAll turn cs os in
     let n = 4 - length l in
     let es = l ++ replicate n (untouched b) in
@@ -169,65 +170,65 @@ three-checks true true false u v d rest = refl
 three-checks true false c u v d rest = refl
 three-checks false b c u v d rest = refl
 
-pub opened-by : (tape : Bool) (w : World) (vs : List ℕ) (b : Block) (last : Last) (head used n : ℕ) → n ≡ length (childrenOf (w .state .chosen) b)
-    → opened tape w vs (T.Front b last head used) ≡ afterCheck (blockCheck (w .state .chosen) b (w .cells) n (length vs) tape) (judged w b last head used (take n vs))
-unfolding opened unless blockCheck
-opened-by tape w vs b last head used n e =
-    rw e (sym (two-checks (blockFine (w .state .chosen) (w .cells) b) (enoughVerdicts tape (length (childrenOf (w .state .chosen) b)) (length vs)) R.Verdicts R.Damaged
+pub front-taken-by : (tape : Bool) (w : World) (vs : List ℕ) (b : Block) (last : Last) (head used n : ℕ) → n ≡ length (childrenOf (w .state .chosen) b)
+    → afterTaking tape w vs (T.Front b last head used) ≡ afterCheck (blockCheck (w .state .chosen) b (w .cells) n (length vs) tape) (judged w b last head used (take n vs))
+unfolding afterTaking unless blockCheck
+front-taken-by tape w vs b last head used n e =
+    rw e (sym (two-checks (blockSound (w .state .chosen) (w .cells) b) (enoughVerdicts tape (length (childrenOf (w .state .chosen) b)) (length vs)) R.Verdicts R.Damaged
     (judged w b last head used (take (length (childrenOf (w .state .chosen) b)) vs))))
 
 -- the front block, and what follows where it is read
-abbrev pub afterOpening : Opened → (Taken → StepEnd) → StepEnd
-afterOpening (P.At f) rest = rest (T.Front (f .block) (f .last) (f .head) (f .used))
-afterOpening (P.Refused why) rest = refused why
+abbrev pub afterFront : FrontAnswer → (Taken → StepEnd) → StepEnd
+afterFront (P.At f) rest = rest (T.Front (f .block) (f .last) (f .head) (f .used))
+afterFront (P.Refused why) rest = refused why
 
-opened-as : (tape : Bool) (w : World) (vs : List ℕ) (t : Taken) → opened tape w vs t ≡ afterOpening (openedAs t) (opened tape w vs)
-unfolding opened
-opened-as tape w vs (T.Front b last head used) = refl
-opened-as tape w vs T.Damaged = refl
-opened-as tape w vs T.Outside = refl
+front-taken-as : (tape : Bool) (w : World) (vs : List ℕ) (t : Taken) → afterTaking tape w vs t ≡ afterFront (frontAs t) (afterTaking tape w vs)
+unfolding afterTaking
+front-taken-as tape w vs (T.Front b last head used) = refl
+front-taken-as tape w vs T.Damaged = refl
+front-taken-as tape w vs T.Outside = refl
 
-two-openings : (a b : Bool) (u v : Refusal) (o : Opened) (k : Taken → StepEnd)
-    → cond a (cond b (afterOpening o k) (refused u)) (refused v) ≡ afterOpening (cond a (cond b o (P.Refused u)) (P.Refused v)) k
-two-openings true true u v o k = refl
-two-openings true false u v o k = refl
-two-openings false b u v o k = refl
+two-fronts : (a b : Bool) (u v : Refusal) (o : FrontAnswer) (k : Taken → StepEnd)
+    → cond a (cond b (afterFront o k) (refused u)) (refused v) ≡ afterFront (cond a (cond b o (P.Refused u)) (P.Refused v)) k
+two-fronts true true u v o k = refl
+two-fronts true false u v o k = refl
+two-fronts false b u v o k = refl
 
 pub step-by : (tape : Bool) (w : World) (vs : List ℕ) → soundRecord (length (w .ring)) (w .state) ≡ true
-    → stepWith tape w vs ≡ afterOpening (opening (w .state) (w .ring) (length (w .cells))) (opened tape w vs)
-unfolding stepWith unless opening
+    → stepWith tape w vs ≡ afterFront (frontAnswer (w .state) (w .ring) (length (w .cells))) (afterTaking tape w vs)
+unfolding stepWith unless frontAnswer
 step-by tape w vs h =
     let s = w .state in
     cond-yes (soundRecord (length (w .ring)) s) _ _ h
     ∙ ap (λ (e : StepEnd). cond (leb (pixelCount (s .chosen)) (length (w .cells))) (cond (ltb (s .taken) (s .queued)) e (refused R.Empty)) (refused R.Cells))
-    (opened-as tape w vs (frontOf s (w .ring)))
-    ∙ two-openings (leb (pixelCount (s .chosen)) (length (w .cells))) (ltb (s .taken) (s .queued)) R.Empty R.Cells (openedAs (frontOf s (w .ring))) (opened tape w vs)
+    (front-taken-as tape w vs (frontOf s (w .ring)))
+    ∙ two-fronts (leb (pixelCount (s .chosen)) (length (w .cells))) (ltb (s .taken) (s .queued)) R.Empty R.Cells (frontAs (frontOf s (w .ring))) (afterTaking tape w vs)
 
 -- what is known once the front block is read
-opened-front : (t : Taken) (f : Front) → openedAs t ≡ P.At f → t ≡ T.Front (f .block) (f .last) (f .head) (f .used)
-opened-front (T.Front b last head used) f e = let k : record { block = b; last = last; head = head; used = used } ≡ f = cc in rw (← k)
-opened-front T.Damaged f e = let z : _≡_ {A = ℕ} 0 1 = cc in absurd (omega arith)
-opened-front T.Outside f e = let z : _≡_ {A = ℕ} 0 1 = cc in absurd (omega arith)
+front-taken : (t : Taken) (f : Front) → frontAs t ≡ P.At f → t ≡ T.Front (f .block) (f .last) (f .head) (f .used)
+front-taken (T.Front b last head used) f e = let k : record { block = b; last = last; head = head; used = used } ≡ f = cc in rw (← k)
+front-taken T.Damaged f e = let z : _≡_ {A = ℕ} 0 1 = cc in absurd (omega arith)
+front-taken T.Outside f e = let z : _≡_ {A = ℕ} 0 1 = cc in absurd (omega arith)
 
-two-at : (a b : Bool) (u v : Refusal) (o : Opened) (f : Front) → cond a (cond b o (P.Refused u)) (P.Refused v) ≡ P.At f → (a ≡ true) × (b ≡ true) × (o ≡ P.At f)
+two-at : (a b : Bool) (u v : Refusal) (o : FrontAnswer) (f : Front) → cond a (cond b o (P.Refused u)) (P.Refused v) ≡ P.At f → (a ≡ true) × (b ≡ true) × (o ≡ P.At f)
 two-at true true u v o f e = (refl, refl, e)
 two-at true false u v o f e = let z : _≡_ {A = ℕ} 0 1 = cc in absurd (omega arith)
 two-at false b u v o f e = let z : _≡_ {A = ℕ} 0 1 = cc in absurd (omega arith)
 
-pub begun-of : (s : State) (ring cells : List ℕ) (o : Opened) (f : Front) → soundRecord (length ring) s ≡ true → o ≡ opening s ring (length cells) → o ≡ P.At f → Begun s ring cells f
-unfolding opening
+pub begun-of : (s : State) (ring cells : List ℕ) (o : FrontAnswer) (f : Front) → soundRecord (length ring) s ≡ true → o ≡ frontAnswer s ring (length cells) → o ≡ P.At f → Begun s ring cells f
+unfolding frontAnswer
 begun-of s ring cells o f r e k =
-    let h = two-at (leb (pixelCount (s .chosen)) (length cells)) (ltb (s .taken) (s .queued)) R.Empty R.Cells (openedAs (frontOf s ring)) f (sym e ∙ k) in
-    record { sound-record = r; cells-enough = h .0; not-empty = h .1; front-read = opened-front (frontOf s ring) f (h .2) }
+    let h = two-at (leb (pixelCount (s .chosen)) (length cells)) (ltb (s .taken) (s .queued)) R.Empty R.Cells (frontAs (frontOf s ring)) f (sym e ∙ k) in
+    record { sound-record = r; cells-enough = h .0; not-empty = h .1; front-read = front-taken (frontOf s ring) f (h .2) }
 
 pub step-begun : (tape : Bool) (s : State) (ring cells vs : List ℕ) (f : Front) → Begun s ring cells f
-    → stepWith tape (worldOf s ring cells) vs ≡ opened tape (worldOf s ring cells) vs (T.Front (f .block) (f .last) (f .head) (f .used))
+    → stepWith tape (worldOf s ring cells) vs ≡ afterTaking tape (worldOf s ring cells) vs (T.Front (f .block) (f .last) (f .head) (f .used))
 unfolding stepWith unless
 step-begun tape s ring cells vs f b = rw (b .sound-record, b .cells-enough, b .not-empty, b .front-read)
 
-pub step-refused : (tape : Bool) (s : State) (ring cells vs : List ℕ) (o : Opened) (why : Refusal) → soundRecord (length ring) s ≡ true → o ≡ opening s ring (length cells) → o ≡ P.Refused why
+pub step-refused : (tape : Bool) (s : State) (ring cells vs : List ℕ) (o : FrontAnswer) (why : Refusal) → soundRecord (length ring) s ≡ true → o ≡ frontAnswer s ring (length cells) → o ≡ P.Refused why
     → stepWith tape (worldOf s ring cells) vs ≡ refused why
-step-refused tape s ring cells vs o why h e k = step-by tape (worldOf s ring cells) vs h ∙ ap (λ (x : Opened). afterOpening x (opened tape (worldOf s ring cells) vs)) (sym e ∙ k)
+step-refused tape s ring cells vs o why h e k = step-by tape (worldOf s ring cells) vs h ∙ ap (λ (x : FrontAnswer). afterFront x (afterTaking tape (worldOf s ring cells) vs)) (sym e ∙ k)
 
 -- a refused step leaves all as it was
 pub ends-refused : (w : World) (e : StepEnd) (why : Refusal) → e ≡ refused why → EndsAs w e (S.Refused why (w .state)) (w .ring) (w .cells)
@@ -245,12 +246,12 @@ module _ (tape : Bool) (s : State) (ring cells vs : List ℕ) (f : Front) (b : B
   begun-by : stepWith tape (worldOf s ring cells) vs ≡ afterCheck k (judged (worldOf s ring cells) (f .block) (f .last) (f .head) (f .used) (take n vs))
   begun-by =
       step-begun tape s ring cells vs f b
-      ∙ opened-by tape (worldOf s ring cells) vs (f .block) (f .last) (f .head) (f .used) n is-n
+      ∙ front-taken-by tape (worldOf s ring cells) vs (f .block) (f .last) (f .head) (f .used) n is-n
       ∙ ap (λ (x : Check). afterCheck x (judged (worldOf s ring cells) (f .block) (f .last) (f .head) (f .used) (take n vs))) (sym is-k)
 
-  both-passed : k ≡ C.Passed → (blockFine (s .chosen) cells (f .block) ≡ true) × (enoughVerdicts tape n (length vs) ≡ true)
+  both-passed : k ≡ C.Passed → (blockSound (s .chosen) cells (f .block) ≡ true) × (enoughVerdicts tape n (length vs) ≡ true)
   unfolding blockCheck
-  both-passed e = two-passed (blockFine (s .chosen) cells (f .block)) (enoughVerdicts tape n (length vs)) R.Verdicts R.Damaged (sym is-k ∙ e)
+  both-passed e = two-passed (blockSound (s .chosen) cells (f .block)) (enoughVerdicts tape n (length vs)) R.Verdicts R.Damaged (sym is-k ∙ e)
     where
       two-passed : (x y : Bool) (v d : Refusal) → cond x (cond y C.Passed (C.Refused v)) (C.Refused d) ≡ C.Passed → (x ≡ true) × (y ≡ true)
       two-passed true true v d e = (refl, refl)
@@ -264,13 +265,13 @@ module _ (tape : Bool) (s : State) (ring cells vs : List ℕ) (f : Front) (b : B
       go true h = leb-true n (length vs) h
       go false h = omega (arith, eqb-true (length vs) n h)
 
-  pub block-passed : k ≡ C.Passed → blockFine (s .chosen) cells (f .block) ≡ true
+  pub block-passed : k ≡ C.Passed → blockSound (s .chosen) cells (f .block) ≡ true
   block-passed e = both-passed e .0
 
   pub block-refused : (why : Refusal) → k ≡ C.Refused why → EndsAs (worldOf s ring cells) (stepWith tape (worldOf s ring cells) vs) (S.Refused why s) ring cells
   block-refused why e = ends-refused (worldOf s ring cells) (stepWith tape (worldOf s ring cells) vs) why (begun-by ∙ ap (λ (x : Check). afterCheck x (judged (worldOf s ring cells) (f .block) (f .last) (f .head) (f .used) (take n vs))) e)
 
-  pub block-judged : k ≡ C.Passed → (r : Stepped) (ring′ cells′ : List ℕ)
+  pub block-judged : k ≡ C.Passed → (r : StepAnswer) (ring′ cells′ : List ℕ)
       → EndsAs (worldOf s ring cells) (judged (worldOf s ring cells) (f .block) (f .last) (f .head) (f .used) (take (n - 0) vs)) r ring′ cells′
       → EndsAs (worldOf s ring cells) (stepWith tape (worldOf s ring cells) vs) r ring′ cells′
   block-judged e r ring′ cells′ h =
@@ -279,7 +280,7 @@ module _ (tape : Bool) (s : State) (ring cells vs : List ℕ) (f : Front) (b : B
 
 -- WHAT IS KNOWN BEFORE THE FIRST WRITE
 
-pub block-sound : (s : State) (ring cells : List ℕ) (f : Front) → Begun s ring cells f → blockFine (s .chosen) cells (f .block) ≡ true → sound (s .chosen) (f .block) ≡ true
+pub block-sound : (s : State) (ring cells : List ℕ) (f : Front) → Begun s ring cells f → blockSound (s .chosen) cells (f .block) ≡ true → sound (s .chosen) (f .block) ≡ true
 block-sound s ring cells f b h =
     and-both (legalChosen (s .chosen)) (undamaged (s .chosen) (f .block)) (sound-chosen (length ring) s (b .sound-record))
     (and-left (undamaged (s .chosen) (f .block)) (not (cellDamaged (s .chosen) (f .block) (meanings cells))) h)
@@ -298,7 +299,7 @@ module _ (s : State) (ring cells : List ℕ) (f : Front) (b : Begun s ring cells
   unfolding indicesKnown putLast
   back-known = let r = sound-record (length ring) s (b .sound-record) .back in rw (lt-ltb (s .back .x) (2 ^ 47) (r .x), lt-ltb (s .back .y) (2 ^ 47) (r .y))
 
-  module _ (h : blockFine (s .chosen) cells (f .block) ≡ true) (formats : Formats (f .block)) (own : List ℕ) where
+  module _ (h : blockSound (s .chosen) cells (f .block) ≡ true) (formats : Formats (f .block)) (own : List ℕ) where
     pub new-ready : AllReady (s .chosen .set) (newBlocks (worldOf s ring cells) (f .block) own)
     new-ready =
         let p = s .chosen in
@@ -306,7 +307,7 @@ module _ (s : State) (ring cells : List ℕ) (f : Front) (b : Begun s ring cells
         let ok = block-sound s ring cells f b h in
         let r = front-known in
         let k = read-kept (p .set) (s .front) (content ring (s .head) (s .used)) (f .block) (r .size) (r .decodes) in
-        each-also (λ c. (sound p c ≡ true) × CanQueue (p .set) c) (CanQueue (p .set)) (λ c q. q .1) (newBlocks w (f .block) own)
+        every-also (λ c. (sound p c ≡ true) × CanQueue (p .set) c) (CanQueue (p .set)) (λ c q. q .1) (newBlocks w (f .block) own)
         (queued-sound p (f .block) ok (outcomesOf w (f .block) own) (block-fine p (f .block) ok k formats))
 
     module _ (plan : Plan) (is-plan : plan ≡ planOf (s .chosen) (f .block) own (meanings cells)) where

@@ -28,7 +28,7 @@ use Rattle.queue.specs.Code.{encode}
 use Rattle.queue.specs.Queue.{codable, measured, appended, appendedRing}
 use Rattle.queue.proofs.QueueAnswers.{denied, granted, codable-both}
 use Rattle.queue.proofs.QueueableLaws.{encode-few}
-use Rattle.queue.specs.Block.{settled}
+use Rattle.queue.specs.Block.{asQueued}
 use Rattle.decide.specs.declared.Chosen.{Chosen}
 use Rattle.decide.specs.declared.children.Children.{Children}
 use Rattle.plan.specs.declared.Fate.{Fate}
@@ -39,18 +39,18 @@ use Rattle.decide.specs.Damage.{legalChosen, undamaged, cellDamaged, damageSeen
 use Rattle.decide.specs.Children.{childrenOf, listed}
 use Rattle.plan.proofs.ChildLaws.{some-child}
 use Rattle.implicit.specs.declared.state.State.{State}
-use Rattle.implicit.specs.declared.state.Drawn.the-variants as D
-use Rattle.implicit.specs.declared.state.Listed.{Listed}
-use Rattle.implicit.specs.declared.advance.Check.the-variants as C
-use Rattle.implicit.specs.declared.advance.Front.{Front}
-use Rattle.implicit.specs.declared.advance.Opened.the-variants as P
-use Rattle.implicit.specs.declared.advance.Size.{Size}
+use Rattle.implicit.specs.declared.state.CallAnswer.the-variants as D
+use Rattle.implicit.specs.declared.state.ChildrenAnswer.{ChildrenAnswer}
+use Rattle.implicit.specs.declared.stepping.Check.the-variants as C
+use Rattle.implicit.specs.declared.stepping.Front.{Front}
+use Rattle.implicit.specs.declared.stepping.FrontAnswer.the-variants as P
+use Rattle.implicit.specs.declared.stepping.Size.{Size}
 use Rattle.implicit.specs.declared.commit.Carried.{Carried}
 use Rattle.implicit.specs.declared.commit.Carried.the-variants as K
 use Rattle.implicit.specs.Record.{pixelCount, soundRecord, putLast}
 use Rattle.implicit.specs.Listing.{frontOf, unlisted, listedBlock, listedFrom, childrenListed}
-use Rattle.implicit.specs.Step.{World, worldOf, blockFine, enoughVerdicts}
-use Rattle.implicit.specs.ByChild.{openedAs, opening, blockCheck, withCode, sizedBy, sizedAll, sizeOf, planCheck, paintedBlock, markedBy, markedAll, numbered, withCarried, queuedAs, withQueued, carriedBy, carriedAll, takenState, committed}
+use Rattle.implicit.specs.Step.{World, worldOf, blockSound, enoughVerdicts}
+use Rattle.implicit.specs.StepComputed.{frontAs, frontAnswer, blockCheck, withCode, sizedBy, sizedAll, sizeOf, planCheck, paintedBlock, markedBy, markedAll, numbered, withCarried, queuedAs, withQueued, carriedBy, carriedAll, takenState, committed}
 
 -- THE LISTING
 
@@ -66,11 +66,11 @@ module _ (p : Chosen) (b : Block) (k : Children) (h : legalChosen p ≡ true) (e
   unfolding listedBlock
   listed-yes f = let u : undamaged p b ≡ true = sym by-count ∙ lt-ltb 0 (k .count) f in rw (u, e)
 
-  pub listed-no : (r : Listed) → k .count ≤ 0 → r ≡ unlisted R.Damaged → r ≡ listedBlock p b
+  pub listed-no : (r : ChildrenAnswer) → k .count ≤ 0 → r ≡ unlisted R.Damaged → r ≡ listedBlock p b
   unfolding listedBlock
   listed-no r f g = let u : undamaged p b ≡ false = sym by-count ∙ le-ltb 0 (k .count) f in rw (u, g)
 
-module _ (s : State) (ring : List ℕ) (t : Bool) (is-t : t ≡ soundRecord (length ring) s) (r : Listed) where
+module _ (s : State) (ring : List ℕ) (t : Bool) (is-t : t ≡ soundRecord (length ring) s) (r : ChildrenAnswer) where
   pub list-damaged : not t ≡ true → r ≡ unlisted R.Damaged → r ≡ childrenListed s ring
   unfolding childrenListed
   list-damaged h e = let u : soundRecord (length ring) s ≡ false = sym is-t ∙ denied t h in rw (u, e)
@@ -86,21 +86,21 @@ module _ (s : State) (ring : List ℕ) (t : Bool) (is-t : t ≡ soundRecord (len
 -- THE FRONT BLOCK
 
 module _ (s : State) (ring : List ℕ) (cells n : ℕ) (is-n : n ≡ pixelCount (s .chosen)) where
-  pub open-few : cells < n → P.Refused R.Cells ≡ opening s ring cells
-  unfolding opening
-  open-few k = let l : cells < pixelCount (s .chosen) = rw is-n at k in rw (lt-leb (pixelCount (s .chosen)) cells l)
+  pub front-few : cells < n → P.Refused R.Cells ≡ frontAnswer s ring cells
+  unfolding frontAnswer
+  front-few k = let l : cells < pixelCount (s .chosen) = rw is-n at k in rw (lt-leb (pixelCount (s .chosen)) cells l)
 
   module _ (k : n ≤ cells) where
     enough : leb (pixelCount (s .chosen)) cells ≡ true
     enough = let l : pixelCount (s .chosen) ≤ cells = rw is-n at k in le-leb (pixelCount (s .chosen)) cells l
 
-    pub open-empty : s .queued ≤ s .taken → P.Refused R.Empty ≡ opening s ring cells
-    unfolding opening
-    open-empty q = rw (enough, le-ltb (s .taken) (s .queued) q)
+    pub front-empty : s .queued ≤ s .taken → P.Refused R.Empty ≡ frontAnswer s ring cells
+    unfolding frontAnswer
+    front-empty q = rw (enough, le-ltb (s .taken) (s .queued) q)
 
-    pub open-at : s .taken < s .queued → (k v : Taken) → k ≡ frontOf s ring → k ≡ v → openedAs v ≡ opening s ring cells
-    unfolding opening
-    open-at q k v e f = rw (enough, lt-ltb (s .taken) (s .queued) q) (ap openedAs (sym f ∙ e))
+    pub front-at : s .taken < s .queued → (k v : Taken) → k ≡ frontOf s ring → k ≡ v → frontAs v ≡ frontAnswer s ring cells
+    unfolding frontAnswer
+    front-at q k v e f = rw (enough, lt-ltb (s .taken) (s .queued) q) (ap frontAs (sym f ∙ e))
 
 -- THE BLOCK
 
@@ -121,12 +121,12 @@ module _ (p : Chosen) (b : Block) (cells : List ℕ) (h : leb (pixelCount p) (le
   told : v ≡ seenIf (cellDamaged p b (meanings cells))
   told = e ∙ seen-damage p b cells h
 
-  pub fine-damaged : v ≡ S.Yes → false ≡ blockFine p cells b
+  pub fine-damaged : v ≡ S.Yes → false ≡ blockSound p cells b
   fine-damaged k =
       cases (cellDamaged p b (meanings cells)) (λ d. rw d (sym (and-false (undamaged p b))))
       (λ d. (let j : S.Yes ≡ seenIf false = sym k ∙ told ∙ ap seenIf d in let z : _≡_ {A = ℕ} 0 1 = cc in absurd (omega arith)))
 
-  pub fine-as : v ≡ S.No → (n : ℕ) → legalChosen p ≡ true → n ≡ length (childrenOf p b) → ltb 0 n ≡ blockFine p cells b
+  pub fine-as : v ≡ S.No → (n : ℕ) → legalChosen p ≡ true → n ≡ length (childrenOf p b) → ltb 0 n ≡ blockSound p cells b
   fine-as k n l f =
       cases (cellDamaged p b (meanings cells)) (λ d. (let j : S.No ≡ seenIf true = sym k ∙ told ∙ ap seenIf d in let z : _≡_ {A = ℕ} 0 1 = cc in absurd (omega arith)))
       (λ d. rw d (child-undamaged p b n l f ∙ sym (and-true (undamaged p b))))
@@ -136,22 +136,22 @@ module _ (p : Chosen) (b : Block) (cells : List ℕ) (h : leb (pixelCount p) (le
       cases (cellDamaged p b (meanings cells)) (λ d. (let j : S.Outside ≡ seenIf true = sym k ∙ told ∙ ap seenIf d in let z : _≡_ {A = ℕ} 0 1 = cc in absurd (omega arith)))
       (λ d. (let j : S.Outside ≡ seenIf false = sym k ∙ told ∙ ap seenIf d in let z : _≡_ {A = ℕ} 0 1 = cc in absurd (omega arith)))
 
-module _ (p : Chosen) (b : Block) (cells : List ℕ) (children verdicts : ℕ) (tape t : Bool) (is-t : t ≡ blockFine p cells b) where
+module _ (p : Chosen) (b : Block) (cells : List ℕ) (children verdicts : ℕ) (tape t : Bool) (is-t : t ≡ blockSound p cells b) where
   pub check-damaged : not t ≡ true → C.Refused R.Damaged ≡ blockCheck p b cells children verdicts tape
   unfolding blockCheck
-  check-damaged h = let u : blockFine p cells b ≡ false = sym is-t ∙ denied t h in sym (cond-no (blockFine p cells b) _ _ u)
+  check-damaged h = let u : blockSound p cells b ≡ false = sym is-t ∙ denied t h in sym (cond-no (blockSound p cells b) _ _ u)
 
   module _ (h : not t ≡ false) (e : Bool) (is-e : e ≡ enoughVerdicts tape children verdicts) where
-    fine : blockFine p cells b ≡ true
+    fine : blockSound p cells b ≡ true
     fine = sym is-t ∙ granted t h
 
     pub check-few : not e ≡ true → C.Refused R.Verdicts ≡ blockCheck p b cells children verdicts tape
     unfolding blockCheck
-    check-few k = sym (cond-yes (blockFine p cells b) _ _ fine ∙ cond-no (enoughVerdicts tape children verdicts) _ _ (sym is-e ∙ denied e k))
+    check-few k = sym (cond-yes (blockSound p cells b) _ _ fine ∙ cond-no (enoughVerdicts tape children verdicts) _ _ (sym is-e ∙ denied e k))
 
     pub check-passed : not e ≡ false → C.Passed ≡ blockCheck p b cells children verdicts tape
     unfolding blockCheck
-    check-passed k = sym (cond-yes (blockFine p cells b) _ _ fine ∙ cond-yes (enoughVerdicts tape children verdicts) _ _ (sym is-e ∙ granted e k))
+    check-passed k = sym (cond-yes (blockSound p cells b) _ _ fine ∙ cond-yes (enoughVerdicts tape children verdicts) _ _ (sym is-e ∙ granted e k))
 
 -- THE PLAN
 
@@ -160,9 +160,9 @@ unfolding measured
 measured-few set back b m count last e f =
     cases (codable set back b)
     (λ k. (let c = codable-both set back b k in
-    let g : M.Bytes (length (encode set back (settled set b))) _ ≡ M.Bytes count last = rw k at (sym e ∙ f) in
-    let j : length (encode set back (settled set b)) ≡ count = cc in
-    omega (arith, encode-few set back (settled set b) (c .0) (c .1))))
+    let g : M.Bytes (length (encode set back (asQueued set b))) _ ≡ M.Bytes count last = rw k at (sym e ∙ f) in
+    let j : length (encode set back (asQueued set b)) ≡ count = cc in
+    omega (arith, encode-few set back (asQueued set b) (c .0) (c .1))))
     (λ k. (let g : M.NotCodable ≡ M.Bytes count last = rw k at (sym e ∙ f) in let z : _≡_ {A = ℕ} 0 1 = cc in absurd (omega arith)))
 
 -- each child that is queued takes at most 83 bytes

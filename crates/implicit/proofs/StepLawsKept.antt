@@ -8,9 +8,10 @@ use lib.Dec.{leb, ltb, eqb}
 use lib.ListN.{length, getD, drop, take}
 use Rattle.base.proofs.Test.{cases}
 use Rattle.base.specs.Bytes.{ofBigEndian}
+use Rattle.base.specs.Lists.{Every}
 use Rattle.interval.specs.declared.Interval.{Interval}
-use Rattle.interval.specs.declared.FromBits.{FromBits}
-use Rattle.interval.specs.declared.FromBits.the-variants as B
+use Rattle.interval.specs.declared.BitsAnswer.{BitsAnswer}
+use Rattle.interval.specs.declared.BitsAnswer.the-variants as B
 use Rattle.interval.specs.Answers.{boundsFrom, fromBits}
 use Rattle.interval.specs.Bounds.{InFormat, legalInterval, putInterval}
 use Rattle.interval.proofs.Legality.{put-again}
@@ -22,27 +23,26 @@ use Rattle.queue.specs.declared.directions.Direction.{Direction}
 use Rattle.queue.specs.declared.directions.Direction.the-variants as D
 use Rattle.queue.specs.declared.read.ParameterRead.{ParameterRead}
 use Rattle.queue.specs.declared.read.ParameterRead.the-variants as P
-use Rattle.queue.specs.declared.read.Reading.{Reading}
-use Rattle.queue.specs.declared.read.Reading.the-variants as R
+use Rattle.queue.specs.declared.read.BlockRead.{BlockRead}
+use Rattle.queue.specs.declared.read.BlockRead.the-variants as R
 use Rattle.queue.specs.Directions.{inUse, parameters}
-use Rattle.queue.specs.Block.{wholeLine, isInteger, withParameter, recalled, settledAt, settled, remembered, parameterOf}
+use Rattle.queue.specs.Block.{wholeLine, isInteger, withParameter, recalled, asQueuedAt, asQueued, remembered, parameterOf}
 use Rattle.queue.specs.Code.{canQueue, indicesKnown}
 use Rattle.queue.specs.Decode.{boundsOf, boundsRead, usedRead, parameterRead, withRead, addParameter, addParameters, addDirection, placeRead, decode}
 use Rattle.queue.proofs.RoundTrip.{ParameterFine, CanQueue}
-use Rattle.queue.proofs.KeptLaws.{known-after, known-test, can-test, settled-is, line-fine}
+use Rattle.queue.proofs.KeptLaws.{known-after, known-test, can-test, as-queued-is, line-fine}
 use Rattle.decide.specs.declared.Chosen.{Chosen}
 use Rattle.decide.specs.Damage.{sound}
 use Rattle.decide.proofs.DamageLaws.{LegalParameters, is-sound}
 use Rattle.plan.proofs.ChildLaws.{Fine}
-use Rattle.plan.proofs.Each.{Each}
 
 -- A BLOCK THAT WAS READ
 
 -- a parameter that was read is put, and one that is not used is the whole line
-read-settled : (used integer : Bool) (last p : Interval) (s : List ℕ) (n : ℕ) → parameterRead used integer last s ≡ P.Read p n → settledAt used p ≡ p
+read-as-queued : (used integer : Bool) (last p : Interval) (s : List ℕ) (n : ℕ) → parameterRead used integer last s ≡ P.Read p n → asQueuedAt used p ≡ p
 unfolding parameterRead usedRead boundsRead fromBits
-read-settled false integer last p s n e = (cc)
-read-settled true integer last p s n e =
+read-as-queued false integer last p s n e = (cc)
+read-as-queued true integer last p s n e =
     cases (leb 2 (length s))
     (λ k. cases (eqb (getD s 0 0) 255 && eqb (getD s 1 0) 255) (λ h. again (rw (k, h) at e)) (λ h. bounds (rw (k, h) at e)))
     (λ k. none (rw k at e))
@@ -79,7 +79,7 @@ read-format true integer last p s n f e =
     again : P.Read (putInterval last) 2 ≡ P.Read p n → InFormat p
     again h = let k : putInterval last ≡ p = cc in rw (← k) (put-format last f)
 
-    whole : (r : FromBits) → fromBits (ofBigEndian (take 8 s)) (ofBigEndian (take 8 (drop 8 s))) integer ≡ r → boundsOf r ≡ P.Read p n → InFormat p
+    whole : (r : BitsAnswer) → fromBits (ofBigEndian (take 8 s)) (ofBigEndian (take 8 (drop 8 s))) integer ≡ r → boundsOf r ≡ P.Read p n → InFormat p
     whole (B.Bounds q) g h = let k : q ≡ p = cc in rw (← k) (read-proper (ofBigEndian (take 8 s)) (ofBigEndian (take 8 (drop 8 s))) integer q g .format)
     whole (B.Refused why) g h = none h
 
@@ -89,16 +89,16 @@ read-format true integer last p s n f e =
         (λ k. none (rw k at h))
 
 -- one parameter more was read
-record Added (set : ℕ) (last : Last) (d : Direction) (r : Reading) (b : Block) : Type 0 where
+record Added (set : ℕ) (last : Last) (d : Direction) (r : BlockRead) (b : Block) : Type 0 where
   pub base : Block
   pub count : ℕ
   pub part : Interval
   pub before-it : r ≡ R.Read base count
   pub with-it : b ≡ withParameter base d part
-  pub kept-so : settledAt (inUse set d) part ≡ part
+  pub kept-so : asQueuedAt (inUse set d) part ≡ part
   pub held-so : InFormat (recalled last d) → InFormat part
 
-added : (set : ℕ) (last : Last) (s : List ℕ) (d : Direction) (r : Reading) (b : Block) (n : ℕ) → addParameter set last s d r ≡ R.Read b n → Added set last d r b
+added : (set : ℕ) (last : Last) (s : List ℕ) (d : Direction) (r : BlockRead) (b : Block) (n : ℕ) → addParameter set last s d r ≡ R.Read b n → Added set last d r b
 unfolding addParameter
 added set last s d (R.Read base count) b n e = go (parameterRead (inUse set d) (isInteger d) (recalled last d) (drop count s)) refl e
   where
@@ -109,7 +109,7 @@ added set last s d (R.Read base count) b n e = go (parameterRead (inUse set d) (
       part = p;
       before-it = refl;
       with-it = (let k : withParameter base d p ≡ b = cc in sym k);
-      kept-so = read-settled (inUse set d) (isInteger d) (recalled last d) p (drop count s) m f;
+      kept-so = read-as-queued (inUse set d) (isInteger d) (recalled last d) p (drop count s) m f;
       held-so = λ g. read-format (inUse set d) (isInteger d) (recalled last d) p (drop count s) m g f;
     }
     go P.Damaged f h = let z : _≡_ {A = ℕ} 0 1 = cc in absurd (omega arith)
@@ -117,10 +117,10 @@ added set last s d R.Damaged b n e = let z : _≡_ {A = ℕ} 0 1 = cc in absurd 
 
 -- each parameter is as the queue keeps it
 pub record Kept (set : ℕ) (b : Block) : Type 0 where
-  pub m : settledAt (inUse set D.M) (b .m) ≡ b .m
-  pub n : settledAt (inUse set D.N) (b .n) ≡ b .n
-  pub theta : settledAt (inUse set D.Theta) (b .theta) ≡ b .theta
-  pub t : settledAt (inUse set D.T) (b .t) ≡ b .t
+  pub m : asQueuedAt (inUse set D.M) (b .m) ≡ b .m
+  pub n : asQueuedAt (inUse set D.N) (b .n) ≡ b .n
+  pub theta : asQueuedAt (inUse set D.Theta) (b .theta) ≡ b .theta
+  pub t : asQueuedAt (inUse set D.T) (b .t) ≡ b .t
 
 -- the block's own bounds are values of binary64
 pub record Formats (b : Block) : Type 0 where
@@ -133,7 +133,7 @@ pub record Formats (b : Block) : Type 0 where
 abbrev pub LastHeld : Last → Type 0
 LastHeld l = InFormat (l .m) × InFormat (l .n) × InFormat (l .theta) × InFormat (l .t)
 
-all-added : (set : ℕ) (last : Last) (s : List ℕ) (r : Reading) (b : Block) (n : ℕ) → addParameters set last s parameters r ≡ R.Read b n → Kept set b × (LastHeld last → Formats b)
+all-added : (set : ℕ) (last : Last) (s : List ℕ) (r : BlockRead) (b : Block) (n : ℕ) → addParameters set last s parameters r ≡ R.Read b n → Kept set b × (LastHeld last → Formats b)
 unfolding addParameters
 all-added set last s r b n e =
     let r₁ = addParameter set last s D.M r in
@@ -157,7 +157,7 @@ read-so : (set : ℕ) (last : Last) (s : List ℕ) (b : Block) (n : ℕ) → dec
 unfolding decode addDirection
 read-so set last s b n e = go (addParameters set last s parameters (placeRead last s)) refl e
   where
-    go : (r : Reading) → addParameters set last s parameters (placeRead last s) ≡ r → addDirection s r ≡ R.Read b n → Kept set b × (LastHeld last → Formats b)
+    go : (r : BlockRead) → addParameters set last s parameters (placeRead last s) ≡ r → addDirection s r ≡ R.Read b n → Kept set b × (LastHeld last → Formats b)
     go (R.Read c k) f h =
         cases (ltb k (length s))
         (λ l. (let g = all-added set last s (placeRead last s) c k f in directed c k g (rw l at h)))
@@ -181,7 +181,7 @@ read-held set last s b n e = read-so set last s b n e .1
 
 -- A BLOCK IS AS IT COMES OUT OF THE QUEUE
 
-fine-part : (used integer : Bool) (p : Interval) → legalInterval p integer ≡ true → settledAt used p ≡ p → InFormat p → ParameterFine used integer p
+fine-part : (used integer : Bool) (p : Interval) → legalInterval p integer ≡ true → asQueuedAt used p ≡ p → InFormat p → ParameterFine used integer p
 fine-part true integer p l k f = record { proper = λ e. record { legal = l; put = k; format = f }; line = λ e. absurd (true≢false e) }
 fine-part false integer p l k f = record { proper = λ e. absurd (false≢true e); line = λ e. sym k }
 
@@ -204,13 +204,13 @@ abbrev pub Ready : ℕ → Block → Type 0
 Ready = CanQueue
 
 abbrev pub AllReady : ℕ → List Block → Type 0
-AllReady set l = Each (CanQueue set) l
+AllReady set l = Every (CanQueue set) l
 
 pub ready-can : (set : ℕ) (b : Block) → Ready set b → canQueue set b ≡ true
 ready-can = can-test
 
-pub ready-settled : (set : ℕ) (b : Block) → Ready set b → settled set b ≡ b
-ready-settled = settled-is
+pub ready-as-queued : (set : ℕ) (b : Block) → Ready set b → asQueued set b ≡ b
+ready-as-queued = as-queued-is
 
 pub ready-known : (set : ℕ) (b : Block) → Ready set b → indicesKnown (remembered b) ≡ true
 ready-known set b r = known-test (remembered b) (known-after set b r)

@@ -15,11 +15,11 @@ use Rattle.queue.specs.Ring.{content}
 use Rattle.queue.specs.Queue.{memory}
 use Rattle.plan.proofs.ChildLaws.{fine-parameters}
 use Rattle.decide.specs.Damage.{undamaged}
-use Rattle.implicit.specs.declared.advance.Front.{Front}
+use Rattle.implicit.specs.declared.stepping.Front.{Front}
 use Rattle.implicit.specs.Record.{pixelCount, soundLast, putLast}
 use Rattle.implicit.specs.Step.{World, finished, newBlocks, worldLeft, stepWith}
-use Rattle.implicit.specs.ByChild.{Begun}
-use Rattle.implicit.specs.ByStep.{SoundByUse}
+use Rattle.implicit.specs.StepComputed.{Begun}
+use Rattle.implicit.specs.RunComputed.{SoundByUse}
 use Rattle.implicit.proofs.RecordLaws.{sound-record, record-sound, use-as, sound-last, last-sound, put-last-sound, remembered-sound}
 use Rattle.implicit.proofs.StepLawsKept.{Ready, AllReady, LastHeld, read-held}
 use Rattle.implicit.proofs.StepLaws.{front-known, front-head, new-ready}

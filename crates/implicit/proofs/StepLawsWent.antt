@@ -31,7 +31,7 @@ use Rattle.decide.proofs.ListingLaws.{children-few}
 use Rattle.plan.proofs.EventLaws.{evaluations-few}
 use Rattle.implicit.specs.Record.{pixelCount, soundRecord}
 use Rattle.implicit.specs.Listing.{frontOf}
-use Rattle.implicit.specs.Step.{World, StepEnd, finished, unless, enoughVerdicts, outcomesOf, eventsOf, newBlocks, newBytes, worldLeft, blockFine, judged, opened, stepWith}
+use Rattle.implicit.specs.Step.{World, StepEnd, finished, unless, enoughVerdicts, outcomesOf, eventsOf, newBlocks, newBytes, worldLeft, blockSound, judged, afterTaking, stepWith}
 
 -- all that a finished step has been through: the block that it took, the checks that it passed, the world that it leaves
 pub record Went (tape : Bool) (w : World) (vs : List ℕ) (left : World) (evals bytes : ℕ) : Type 0 where
@@ -44,7 +44,7 @@ pub record Went (tape : Bool) (w : World) (vs : List ℕ) (left : World) (evals 
   pub cells-enough : pixelCount (w .state .chosen) ≤ length (w .cells)
   pub not-empty : ltb (w .state .taken) (w .state .queued) ≡ true
   pub front-read : frontOf (w .state) (w .ring) ≡ T.Front block last head used
-  pub undamaged-block : blockFine (w .state .chosen) (w .cells) block ≡ true
+  pub undamaged-block : blockSound (w .state .chosen) (w .cells) block ≡ true
   pub enough : enoughVerdicts tape (length (childrenOf (w .state .chosen) block)) (length vs) ≡ true
   pub own-is : own ≡ take (length (childrenOf (w .state .chosen) block)) vs
   pub legal : allLegal (childrenOf (w .state .chosen) block) own ≡ true
@@ -60,7 +60,7 @@ passed why true rest left e n h = (refl, h)
 passed why false rest left e n h = let z : _≡_ {A = ℕ} 0 1 = cc in absurd (omega arith)
 
 pub went : (tape : Bool) (w : World) (vs : List ℕ) (left : World) (e n : ℕ) → stepWith tape w vs ≡ finished left e n → Went tape w vs left e n
-unfolding stepWith opened judged
+unfolding stepWith afterTaking judged
 went tape w vs left e n h =
     let a = passed R.Damaged (soundRecord (length (w .ring)) (w .state)) _ left e n h in
     let b = passed R.Cells (leb (pixelCount (w .state .chosen)) (length (w .cells))) _ left e n (a .1) in
@@ -68,11 +68,11 @@ went tape w vs left e n h =
     go (a .0) (leb-true (pixelCount (w .state .chosen)) (length (w .cells)) (b .0)) (c .0) (frontOf (w .state) (w .ring)) refl (c .1)
   where
     go : soundRecord (length (w .ring)) (w .state) ≡ true → pixelCount (w .state .chosen) ≤ length (w .cells) → ltb (w .state .taken) (w .state .queued) ≡ true
-        → (t : Taken) → frontOf (w .state) (w .ring) ≡ t → opened tape w vs t ≡ finished left e n → Went tape w vs left e n
+        → (t : Taken) → frontOf (w .state) (w .ring) ≡ t → afterTaking tape w vs t ≡ finished left e n → Went tape w vs left e n
     go x y z (T.Front block last head used) f g =
         let cs = childrenOf (w .state .chosen) block in
         let own = take (length cs) vs in
-        let d = passed R.Damaged (blockFine (w .state .chosen) (w .cells) block) _ left e n g in
+        let d = passed R.Damaged (blockSound (w .state .chosen) (w .cells) block) _ left e n g in
         let m = passed R.Verdicts (enoughVerdicts tape (length cs) (length vs)) _ left e n (d .1) in
         let l = passed R.Verdict (allLegal cs own) _ left e n (m .1) in
         let q = passed R.Numbers (leb (w .state .queued + length (newBlocks w block own)) (2 ^ 32)) _ left e n (l .1) in
@@ -104,18 +104,18 @@ went tape w vs left e n h =
 -- and a step that passes all of that is finished
 pub goes : (tape : Bool) (w : World) (vs : List ℕ) (b : Block) (last : Last) (head used : ℕ) → let cs = childrenOf (w .state .chosen) b in let own = take (length cs) vs in
     soundRecord (length (w .ring)) (w .state) ≡ true → pixelCount (w .state .chosen) ≤ length (w .cells) → ltb (w .state .taken) (w .state .queued) ≡ true
-    → frontOf (w .state) (w .ring) ≡ T.Front b last head used → blockFine (w .state .chosen) (w .cells) b ≡ true → enoughVerdicts tape (length cs) (length vs) ≡ true
+    → frontOf (w .state) (w .ring) ≡ T.Front b last head used → blockSound (w .state .chosen) (w .cells) b ≡ true → enoughVerdicts tape (length cs) (length vs) ≡ true
     → allLegal cs own ≡ true → w .state .queued + length (newBlocks w b own) ≤ 2 ^ 32 → used + length (newBytes w b own) ≤ length (w .ring)
     → stepWith tape w vs ≡ finished (worldLeft w b last head used own) (evaluations (outcomesOf w b own)) (length cs)
-unfolding stepWith opened judged unless
+unfolding stepWith afterTaking judged unless
 goes tape w vs b last head used x y z f d m l q r =
     let cs = childrenOf (w .state .chosen) b in
     let own = take (length cs) vs in
     cond-yes (soundRecord (length (w .ring)) (w .state)) _ _ x
     ∙ cond-yes (leb (pixelCount (w .state .chosen)) (length (w .cells))) _ _ (le-leb (pixelCount (w .state .chosen)) (length (w .cells)) y)
     ∙ cond-yes (ltb (w .state .taken) (w .state .queued)) _ _ z
-    ∙ ap (opened tape w vs) f
-    ∙ cond-yes (blockFine (w .state .chosen) (w .cells) b) _ _ d
+    ∙ ap (afterTaking tape w vs) f
+    ∙ cond-yes (blockSound (w .state .chosen) (w .cells) b) _ _ d
     ∙ cond-yes (enoughVerdicts tape (length cs) (length vs)) _ _ m
     ∙ cond-yes (allLegal cs own) _ _ l
     ∙ cond-yes (leb (w .state .queued + length (newBlocks w b own)) (2 ^ 32)) _ _ (le-leb (w .state .queued + length (newBlocks w b own)) (2 ^ 32) q)

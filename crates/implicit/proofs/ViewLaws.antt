@@ -9,16 +9,19 @@ use lib.Dec.{leb}
 use lib.ListN.{length, getD, take, drop, length-append, length-drop}
 use lib.ListN as L
 use lib.Seq.{length-take-le, take-at, drop-at}
-use borrow.Author.Tests.{le-leb, lt-leb, leb-true}
+use borrow.Author.Tests.{le-leb, lt-leb, leb-true, not-true, not-false}
+use Rattle.base.proofs.ListLaws.{map-at}
 use Rattle.refusal.specs.declared.Refusal.{Refusal}
 use Rattle.refusal.specs.declared.Refusal.the-variants as R
-use Rattle.image.specs.declared.Kind.the-variants as K
+use Rattle.image.specs.declared.CellKind.the-variants as K
 use Rattle.image.specs.declared.Reading.{Reading}
 use Rattle.image.specs.declared.Reading.the-variants as G
-use Rattle.image.specs.declared.Tally.{Tally}
-use Rattle.image.specs.declared.TallyAnswer.{TallyAnswer}
-use Rattle.image.specs.declared.TallyAnswer.the-variants as A
-use Rattle.image.specs.Cell.{Cell, Named, Marked, GivenUp, Other, meaningOf, meanings, reading, byteOf, shownByte, isDamaged, isGivenUp, ofKind, countOf, isTrue, isFalse, isUncertain, tallied}
+use Rattle.image.specs.declared.CellTally.{CellTally}
+use Rattle.image.specs.declared.PixelRange.{PixelRange}
+use Rattle.image.specs.declared.CellTallyAnswer.{CellTallyAnswer}
+use Rattle.image.specs.declared.CellTallyAnswer.the-variants as A
+use Rattle.image.specs.Cell.{Cell, Named, Marked, GivenUp, Other, meaningOf, meanings, reading, byteOf, shownByte}
+use Rattle.image.specs.Cell.{isDamaged, isGivenUp, ofKind, countOf, isTrue, isFalse, isUncertain, tallied}
 use Rattle.image.specs.Range.{cellIndex, wholePicture}
 use Rattle.image.specs.Painting.{pixelCell, someOf, tallyAnswer, drawnBytes}
 use Rattle.image.proofs.RangeLaws.{cell-below}
@@ -26,13 +29,13 @@ use Rattle.image.proofs.CountLaws.{tally-answered}
 use Rattle.image.proofs.DrawLaws.{drawn-all}
 use Rattle.decide.specs.declared.Chosen.{Chosen}
 use Rattle.implicit.specs.declared.state.State.{State}
-use Rattle.implicit.specs.declared.state.Counts.{Counts}
-use Rattle.implicit.specs.declared.state.Counted.{Counted}
-use Rattle.implicit.specs.declared.state.Counted.the-variants as C
-use Rattle.implicit.specs.declared.state.Drawn.{Drawn}
-use Rattle.implicit.specs.declared.state.Drawn.the-variants as D
+use Rattle.implicit.specs.declared.state.Tally.{Tally}
+use Rattle.implicit.specs.declared.state.CountsAnswer.{CountsAnswer}
+use Rattle.implicit.specs.declared.state.CountsAnswer.the-variants as C
+use Rattle.implicit.specs.declared.state.CallAnswer.{CallAnswer}
+use Rattle.implicit.specs.declared.state.CallAnswer.the-variants as D
 use Rattle.implicit.specs.Record.{pixelCount, pixelCells, soundRecord}
-use Rattle.implicit.specs.View.{cellsFine, pictureBytes, pictureLeft, shareOf, pictureAnswer, countsFrom, countsOf, countsAnswer}
+use Rattle.implicit.specs.View.{cellsSound, pictureBytes, pictureLeft, shareOf, pictureAnswer, countsFrom, countsOf, countsAnswer}
 use Rattle.implicit.proofs.RecordLaws.{sound-chosen, pixels-some, pixels-most, pixel-cells, pixel-cells-length, pixel-cell-at, whole-ready}
 
 -- DAMAGED CELLS
@@ -49,12 +52,20 @@ take-meanings (suc k) [] = refl
 take-meanings (suc k) (n ∷ l) = ap (λ (r : List Cell). meaningOf n ∷ r) (take-meanings k l)
 
 -- no pixel's cell is damaged exactly if none of the first cells is
-pub fine-as : (s : State) (cells : List ℕ) (n : ℕ) (b : Bool) → n ≡ pixelCount (s .chosen) → b ≡ someOf (ofKind K.Damaged) (meanings (take n cells))
-    → not b ≡ cellsFine s cells
-fine-as s cells n b e f =
-    ap not (f ∙ damaged-some (meanings (take n cells)) ∙ ap (someOf isDamaged) (take-meanings n cells ∙ ap (λ (k : ℕ). take k (meanings cells)) e ∙ sym (pixel-cells (s .chosen) cells)))
+pub fine-as : (s : State) (cells : List ℕ) (n : ℕ) (b : Bool) → b ≡ someOf (ofKind K.Damaged) (meanings (take n cells)) → n ≡ pixelCount (s .chosen)
+    → not b ≡ cellsSound s cells
+fine-as s cells n b f e =
+    ap not (f ∙ damaged-some (meanings (take n cells))
+    ∙ ap (someOf isDamaged) (take-meanings n cells ∙ ap (λ (k : ℕ). take k (meanings cells)) e ∙ sym (pixel-cells (s .chosen) cells)))
 
 -- THE ANSWERS, BY THE TESTS THAT LEAD THERE
+
+-- what the code's test says
+pub test-passed : (t x : Bool) → t ≡ x → not t ≡ false → x ≡ true
+test-passed t x e h = sym e ∙ not-false t h
+
+pub test-failed : (t x : Bool) → t ≡ x → not t ≡ true → x ≡ false
+test-failed t x e h = sym e ∙ not-true t h
 
 module _ (s : State) (cells : List ℕ) (room : ℕ) where
   pub refused-record : soundRecord (s .len) s ≡ false → pictureAnswer s cells room ≡ D.Refused R.Damaged
@@ -70,7 +81,7 @@ module _ (s : State) (cells : List ℕ) (room : ℕ) where
   unfolding pictureAnswer
   refused-room h k m = rw (h, le-leb (pixelCount (s .chosen)) (length cells) k, lt-leb (pixelCount (s .chosen)) room m)
 
-  pub refused-cell : soundRecord (s .len) s ≡ true → pixelCount (s .chosen) ≤ length cells → pixelCount (s .chosen) ≤ room → cellsFine s cells ≡ false
+  pub refused-cell : soundRecord (s .len) s ≡ true → pixelCount (s .chosen) ≤ length cells → pixelCount (s .chosen) ≤ room → cellsSound s cells ≡ false
       → pictureAnswer s cells room ≡ D.Refused R.Damaged
   unfolding pictureAnswer
   refused-cell h k m f = rw (h, le-leb (pixelCount (s .chosen)) (length cells) k, le-leb (pixelCount (s .chosen)) room m, f)
@@ -80,7 +91,7 @@ pub record Viewable (s : State) (cells : List ℕ) (room : ℕ) : Type 0 where
   pub record-sound : soundRecord (s .len) s ≡ true
   pub enough : pixelCount (s .chosen) ≤ length cells
   pub room-left : pixelCount (s .chosen) ≤ room
-  pub cells-fine : cellsFine s cells ≡ true
+  pub cells-fine : cellsSound s cells ≡ true
 
 pub viewable-drawn : (s : State) (cells : List ℕ) (room : ℕ) → Viewable s cells room → pictureAnswer s cells room ≡ D.Done
 unfolding pictureAnswer
@@ -90,7 +101,8 @@ viewable-drawn s cells room v =
 never : (why : Refusal) {P : Type 0} → D.Refused why ≡ D.Done → P
 never why e = let z : _≡_ {A = ℕ} 0 1 = cc in absurd (omega arith)
 
-four : (a b c d : Bool) → cond a (cond b (cond c (cond d D.Done (D.Refused R.Damaged)) (D.Refused R.Picture)) (D.Refused R.Cells)) (D.Refused R.Damaged) ≡ D.Done
+four : (a b c d : Bool)
+    → cond a (cond b (cond c (cond d D.Done (D.Refused R.Damaged)) (D.Refused R.Picture)) (D.Refused R.Cells)) (D.Refused R.Damaged) ≡ D.Done
     → (a ≡ true) × (b ≡ true) × (c ≡ true) × (d ≡ true)
 four true true true true e = (refl, refl, refl, refl)
 four true true true false e = never R.Damaged e
@@ -102,11 +114,11 @@ pub drawn-viewable : (s : State) (cells : List ℕ) (room : ℕ) → pictureAnsw
 unfolding pictureAnswer
 drawn-viewable s cells room e =
     let n = pixelCount (s .chosen) in
-    let f = four (soundRecord (s .len) s) (leb n (length cells)) (leb n room) (cellsFine s cells) e in
+    let f = four (soundRecord (s .len) s) (leb n (length cells)) (leb n room) (cellsSound s cells) e in
     record { record-sound = f .0; enough = leb-true n (length cells) (f .1); room-left = leb-true n room (f .2); cells-fine = f .3 }
 
 -- the counts are refused as a picture is that has room
-abbrev pub countedIf : Drawn → Counts → Counted
+abbrev pub countedIf : CallAnswer → Tally → CountsAnswer
 countedIf D.Done n = C.Of n
 countedIf (D.Refused why) n = C.Refused why
 
@@ -115,7 +127,7 @@ pub counts-as-picture : (s : State) (cells : List ℕ) (room : ℕ) → room ≡
 unfolding pictureAnswer countsAnswer
 counts-as-picture s cells room e =
     rw (le-leb (pixelCount (s .chosen)) room (omega arith))
-    (go (soundRecord (s .len) s) (leb (pixelCount (s .chosen)) (length cells)) (cellsFine s cells))
+    (go (soundRecord (s .len) s) (leb (pixelCount (s .chosen)) (length cells)) (cellsSound s cells))
   where
     go : (a b d : Bool)
         → countedIf (cond a (cond b (cond d D.Done (D.Refused R.Damaged)) (D.Refused R.Cells)) (D.Refused R.Damaged)) (countsOf s cells)
@@ -125,12 +137,13 @@ counts-as-picture s cells room e =
     go true false d = refl
     go false b d = refl
 
-pub counts-done : (s : State) (cells : List ℕ) (room : ℕ) → room ≡ pixelCount (s .chosen) → pictureAnswer s cells room ≡ D.Done → countsAnswer s cells ≡ C.Of (countsOf s cells)
-counts-done s cells room e d = sym (counts-as-picture s cells room e) ∙ ap (λ (a : Drawn). countedIf a (countsOf s cells)) d
+pub counts-done : (s : State) (cells : List ℕ) (room : ℕ) → room ≡ pixelCount (s .chosen)
+    → pictureAnswer s cells room ≡ D.Done → countsAnswer s cells ≡ C.Of (countsOf s cells)
+counts-done s cells room e d = sym (counts-as-picture s cells room e) ∙ ap (λ (a : CallAnswer). countedIf a (countsOf s cells)) d
 
 pub counts-refused : (s : State) (cells : List ℕ) (room : ℕ) (why : Refusal) → room ≡ pixelCount (s .chosen) → pictureAnswer s cells room ≡ D.Refused why
     → countsAnswer s cells ≡ C.Refused why
-counts-refused s cells room why e d = sym (counts-as-picture s cells room e) ∙ ap (λ (a : Drawn). countedIf a (countsOf s cells)) d
+counts-refused s cells room why e d = sym (counts-as-picture s cells room e) ∙ ap (λ (a : CallAnswer). countedIf a (countsOf s cells)) d
 
 -- BYTE BY BYTE
 
@@ -141,10 +154,10 @@ bytes-shown s cells =
     ∙ ap (map (λ c. byteOf (reading (s .taken) c))) (take-meanings (pixelCount (s .chosen)) cells ∙ sym (pixel-cells (s .chosen) cells))
 
 -- the first bytes drawn, and the rest as it was
-pub left-drawn : (s : State) (n : ℕ) (cells out ys : List ℕ) → n ≡ pixelCount (s .chosen) → n ≤ length cells → n ≤ length out
-    → ys ≡ drawnBytes (s .taken) (take n cells) (take n out) → ys ++ drop n out ≡ pictureLeft s cells out
+pub left-drawn : (s : State) (n : ℕ) (cells out ys : List ℕ) → ys ≡ drawnBytes (s .taken) (take n cells) (take n out)
+    → n ≡ pixelCount (s .chosen) → n ≤ length cells → n ≤ length out → ys ++ drop n out ≡ pictureLeft s cells out
 unfolding pictureLeft
-left-drawn s n cells out ys e h k f =
+left-drawn s n cells out ys f e h k =
     let y = f ∙ drawn-all (s .taken) (take n cells) (take n out) (length-take-le n cells h ∙ sym (length-take-le n out k)) in
     ap (λ (l : List ℕ). l ++ drop n out) y ∙ rw e (ap (λ (l : List ℕ). l ++ drop (pixelCount (s .chosen)) out) (bytes-shown s cells))
 
@@ -152,11 +165,6 @@ left-drawn s n cells out ys e h k f =
 pub picture-length : (s : State) (cells : List ℕ) → pixelCount (s .chosen) ≤ length cells → length (pictureBytes s cells) ≡ pixelCount (s .chosen)
 unfolding pictureBytes
 picture-length s cells h = L.length-map (pixelCells (s .chosen) cells) (λ c. byteOf (reading (s .taken) c)) ∙ pixel-cells-length (s .chosen) cells h
-
-map-at : {A : Type 0} (f : A → ℕ) (l : List A) (i : ℕ) (d : A) → i < length l → getD (map f l) i 0 ≡ f (getD l i d)
-map-at f [] i d h = absurd (omega arith)
-map-at f (c ∷ l) zero d h = refl
-map-at f (c ∷ l) (suc i) d h = map-at f l i d (omega arith)
 
 -- and the one of the pixel in column x that is the y-th from the bottom is that of its cell's reading
 pub picture-byte : (s : State) (cells : List ℕ) (x y : ℕ) → pixelCount (s .chosen) ≤ length cells → x < s .chosen .width → y < s .chosen .height
@@ -214,24 +222,29 @@ unfolding tallied countOf
 given-up-uncertain taken [] = omega arith
 given-up-uncertain taken (c ∷ l) = let h = given-up-uncertain taken l in let k = given-up-reads taken c in omega arith
 
-pub settled-few : (p : Chosen) (taken : ℕ) (l : List ℕ) (t : Tally) → pixelCount p ≤ length l → t ≡ tallied taken (pixelCells p l) → t .trues + t .falses ≤ pixelCount p
+pub settled-few : (p : Chosen) (taken : ℕ) (l : List ℕ) (t : CellTally) → pixelCount p ≤ length l
+    → t ≡ tallied taken (pixelCells p l) → t .trues + t .falses ≤ pixelCount p
 settled-few p taken l t h e =
     let a = tally-adds taken (pixelCells p l) in
     let n = pixel-cells-length p l h in
-    let f : t .trues + t .falses ≡ tallied taken (pixelCells p l) .trues + tallied taken (pixelCells p l) .falses = ap (λ (u : Tally). u .trues + u .falses) e in
+    let k = tallied taken (pixelCells p l) in
+    let f : t .trues + t .falses ≡ k .trues + k .falses = ap (λ (u : CellTally). u .trues + u .falses) e in
     omega arith
 
 -- what `image` counts of the whole picture
-module _ (s : State) (cells : List ℕ) (a : TallyAnswer) (enough : pixelCount (s .chosen) ≤ length cells)
-    (e : a ≡ tallyAnswer (s .chosen .width) (s .chosen .height) (wholePicture (s .chosen .width) (s .chosen .height)) (s .taken) cells) where
-  whole-tallied : a ≡ A.Of (tallied (s .taken) (pixelCells (s .chosen) cells))
-  whole-tallied = e ∙ tally-answered (s .chosen .width) (s .chosen .height) (wholePicture (s .chosen .width) (s .chosen .height)) (s .taken) cells (whole-ready (s .chosen) (length cells) enough)
+pub whole-tallied : (s : State) (cells : List ℕ) (r : PixelRange) (a : CellTallyAnswer) → pixelCount (s .chosen) ≤ length cells
+    → r ≡ wholePicture (s .chosen .width) (s .chosen .height) → a ≡ tallyAnswer (s .chosen .width) (s .chosen .height) r (s .taken) cells
+    → a ≡ A.Of (tallied (s .taken) (pixelCells (s .chosen) cells))
+whole-tallied s cells r a enough e f =
+    let p = s .chosen in
+    f ∙ ap (λ (x : PixelRange). tallyAnswer (p .width) (p .height) x (s .taken) cells) e
+    ∙ tally-answered (p .width) (p .height) (wholePicture (p .width) (p .height)) (s .taken) cells (whole-ready p (length cells) enough)
 
-  pub tally-told : (t : Tally) → a ≡ A.Of t → t ≡ tallied (s .taken) (pixelCells (s .chosen) cells)
-  tally-told t f = let g = whole-tallied in cc
+pub same-tally : (a : CellTallyAnswer) (k t : CellTally) → a ≡ A.Of k → a ≡ A.Of t → t ≡ k
+same-tally a k t e f = cc
 
-  pub tally-never-outside : {P : Type 0} → a ≡ A.Outside → P
-  tally-never-outside f = let g = whole-tallied in let z : _≡_ {A = ℕ} 0 1 = cc in absurd (omega arith)
+pub never-outside : (a : CellTallyAnswer) (k : CellTally) {P : Type 0} → a ≡ A.Of k → a ≡ A.Outside → P
+never-outside a k e f = let z : _≡_ {A = ℕ} 0 1 = cc in absurd (omega arith)
 
 pub share-asks : (s : State) (pixels settled : ℕ) → soundRecord (s .len) s ≡ true → pixels ≡ pixelCount (s .chosen) → settled ≤ pixelCount (s .chosen)
     → (1 ≤ pixels) × (pixels ≤ 2 ^ 30) × (settled ≤ pixels)
@@ -242,10 +255,11 @@ share-asks s pixels settled h e k =
 pub settled-fits : (s : State) (settled : ℕ) → soundRecord (s .len) s ≡ true → settled ≤ pixelCount (s .chosen) → settled < 2 ^ 64
 settled-fits s settled h k = omega (arith, pixels-most (s .chosen) (sound-chosen (s .len) s h))
 
-pub counts-from-as : (s : State) (t : Tally) (pixels share : ℕ) → pixels ≡ pixelCount (s .chosen) → share ≡ shareOf (t .trues + t .falses) pixels
-    → record { trues = t .trues; falses = t .falses; uncertain = t .uncertain; givenup = t .givenup; queued = s .queued - s .taken; share = share } ≡ countsFrom s t
+pub counts-from-as : (s : State) (t : CellTally) (pixels share : ℕ) → share ≡ shareOf (t .trues + t .falses) pixels → pixels ≡ pixelCount (s .chosen)
+    → record { trues = t .trues; falses = t .falses; uncertain = t .uncertain; givenup = t .givenup; queued = s .queued - s .taken; share = share }
+    ≡ countsFrom s t
 unfolding countsFrom
-counts-from-as s t pixels share e f = rw (f, e)
+counts-from-as s t pixels share f e = rw (f, e)
 
 -- the three readings add up to the pixels, and the given-up cells are among the uncertain ones
 pub counts-add : (s : State) (cells : List ℕ) → pixelCount (s .chosen) ≤ length cells
@@ -261,8 +275,13 @@ counts-given-up s cells = given-up-uncertain (s .taken) (pixelCells (s .chosen) 
 pub share-nearest : (settled pixels : ℕ) → 1 ≤ pixels
     → (shareOf settled pixels * (2 * pixels) ≤ 2000 * settled + pixels) × (2000 * settled + pixels < shareOf settled pixels * (2 * pixels) + 2 * pixels)
 unfolding shareOf
-share-nearest settled pixels h = (div-mul-le-self (2000 * settled + pixels) (2 * pixels), lt-div-mul-add {a = 2000 * settled + pixels} {b = 2 * pixels} (omega arith))
+share-nearest settled pixels h = (
+  div-mul-le-self (2000 * settled + pixels) (2 * pixels),
+  lt-div-mul-add {a = 2000 * settled + pixels} {b = 2 * pixels} (omega arith),
+)
 
 pub share-most : (settled pixels : ℕ) → 1 ≤ pixels → settled ≤ pixels → shareOf settled pixels ≤ 1000
 unfolding shareOf
-share-most settled pixels h k = let f : shareOf settled pixels < 1001 = div-lt-iff-lt-mul {k = 2 * pixels} {x = 2000 * settled + pixels} {y = 1001} (omega arith) .1 (omega arith) in omega arith
+share-most settled pixels h k =
+    let f : shareOf settled pixels < 1001 = div-lt-iff-lt-mul {k = 2 * pixels} {x = 2000 * settled + pixels} {y = 1001} (omega arith) .1 (omega arith) in
+    omega arith

@@ -1,73 +1,83 @@
 -- The answers of the entries that are enums: document 01's number of each case, 0 where the call was done and else that of its refusal, and its values.
--- A refused step, run or move hands back the record it was given. Any other value that a refused call does not have is blank: 0, counts of 0, no word, or the record of no picture.
+-- A refused step, run or move hands back the record it was given. Any other value that a refused call does not have is blank: 0, counts of 0,
+-- or the record of no picture.
 use mathlib.Core.List.{List, [], _∷_}
 use Prim.Native.Nat.{ℕ}
 use Rattle.refusal.specs.Number.{number}
 use Rattle.queue.specs.Block.{startingLast}
 use Rattle.implicit.specs.declared.state.State.{State}
-use Rattle.implicit.specs.declared.state.Counts.{Counts}
-use Rattle.implicit.specs.declared.state.Started.{Started}
-use Rattle.implicit.specs.declared.state.Started.the-variants as S
-use Rattle.implicit.specs.declared.state.Needed.{Needed}
-use Rattle.implicit.specs.declared.state.Needed.the-variants as M
-use Rattle.implicit.specs.declared.state.Moved.{Moved}
-use Rattle.implicit.specs.declared.state.Moved.the-variants as Q
-use Rattle.implicit.specs.declared.state.Listed.{Listed}
-use Rattle.implicit.specs.declared.state.Stepped.{Stepped}
-use Rattle.implicit.specs.declared.state.Stepped.the-variants as T
+use Rattle.implicit.specs.declared.state.Tally.{Tally}
+use Rattle.implicit.specs.declared.state.SetupAnswer.{SetupAnswer}
+use Rattle.implicit.specs.declared.state.SetupAnswer.the-variants as S
+use Rattle.implicit.specs.declared.state.NeededAnswer.{NeededAnswer}
+use Rattle.implicit.specs.declared.state.NeededAnswer.the-variants as M
+use Rattle.implicit.specs.declared.state.MoveAnswer.{MoveAnswer}
+use Rattle.implicit.specs.declared.state.MoveAnswer.the-variants as Q
+use Rattle.implicit.specs.declared.state.ChildrenAnswer.{ChildrenAnswer}
+use Rattle.implicit.specs.declared.state.StepAnswer.{StepAnswer}
+use Rattle.implicit.specs.declared.state.StepAnswer.the-variants as T
 use Rattle.implicit.specs.declared.state.Ending.{Ending}
 use Rattle.implicit.specs.declared.state.Ending.the-variants as E
-use Rattle.implicit.specs.declared.state.Ran.{Ran}
-use Rattle.implicit.specs.declared.state.Ran.the-variants as N
-use Rattle.implicit.specs.declared.state.Drawn.{Drawn}
-use Rattle.implicit.specs.declared.state.Drawn.the-variants as D
-use Rattle.implicit.specs.declared.state.Counted.{Counted}
-use Rattle.implicit.specs.declared.state.Counted.the-variants as C
+use Rattle.implicit.specs.declared.state.RunAnswer.{RunAnswer}
+use Rattle.implicit.specs.declared.state.RunAnswer.the-variants as N
+use Rattle.implicit.specs.declared.state.CallAnswer.{CallAnswer}
+use Rattle.implicit.specs.declared.state.CallAnswer.the-variants as D
+use Rattle.implicit.specs.declared.state.CountsAnswer.{CountsAnswer}
+use Rattle.implicit.specs.declared.state.CountsAnswer.the-variants as C
 
 -- SETUP: its number, and the record that it leaves. A refused setup leaves the blank one: its picture has sides of 0, so that every call on it is refused
 abbrev pub blankState : State
-blankState = record { chosen = record { width = 0; height = 0; set = 0; reserved1 = 0; reserved2 = 0; reserved3 = 0 }; taken = 0; queued = 0; len = 0; head = 0; used = 0; front = startingLast; back = startingLast }
+blankState = record {
+  chosen = record { width = 0; height = 0; set = 0; reserved1 = 0; reserved2 = 0; reserved3 = 0 };
+  taken = 0;
+  queued = 0;
+  len = 0;
+  head = 0;
+  used = 0;
+  front = startingLast;
+  back = startingLast;
+}
 
-abbrev pub setupNumber : Started → ℕ
+abbrev pub setupNumber : SetupAnswer → ℕ
 setupNumber (S.Ready s) = 0
 setupNumber (S.Refused why) = number why
 
-abbrev pub setupState : Started → State
+abbrev pub setupState : SetupAnswer → State
 setupState (S.Ready s) = s
 setupState (S.Refused why) = blankState
 
 -- THE LEAST RING, AND ONE THAT IS ENOUGH: the number, and the bytes
-abbrev pub neededNumber : Needed → ℕ
+abbrev pub neededNumber : NeededAnswer → ℕ
 neededNumber (M.Bytes n) = 0
 neededNumber (M.Refused why) = number why
 
-abbrev pub neededBytes : Needed → ℕ
+abbrev pub neededBytes : NeededAnswer → ℕ
 neededBytes (M.Bytes n) = n
 neededBytes (M.Refused why) = 0
 
 -- MOVE: its number, and the record
-abbrev pub moveNumber : Moved → ℕ
+abbrev pub moveNumber : MoveAnswer → ℕ
 moveNumber (Q.Done s) = 0
 moveNumber (Q.Refused why s) = number why
 
-abbrev pub moveState : Moved → State
+abbrev pub moveState : MoveAnswer → State
 moveState (Q.Done s) = s
 moveState (Q.Refused why s) = s
 
 -- STEP: its number, the record, the evaluations, and the verdict bytes that it took
-abbrev pub stepNumber : Stepped → ℕ
+abbrev pub stepNumber : StepAnswer → ℕ
 stepNumber (T.Finished s evals bytes) = 0
 stepNumber (T.Refused why s) = number why
 
-abbrev pub stepState : Stepped → State
+abbrev pub stepState : StepAnswer → State
 stepState (T.Finished s evals bytes) = s
 stepState (T.Refused why s) = s
 
-abbrev pub stepEvaluations : Stepped → ℕ
+abbrev pub stepEvaluations : StepAnswer → ℕ
 stepEvaluations (T.Finished s evals bytes) = evals
 stepEvaluations (T.Refused why s) = 0
 
-abbrev pub stepVerdicts : Stepped → ℕ
+abbrev pub stepVerdicts : StepAnswer → ℕ
 stepVerdicts (T.Finished s evals bytes) = bytes
 stepVerdicts (T.Refused why s) = 0
 
@@ -84,51 +94,51 @@ stopNumber E.Limit = 0
 stopNumber E.More = 0
 stopNumber (E.Stop why) = number why
 
--- RUN: its number, the record, the steps, evaluations and tape bytes, the ending's word, and the number of what stopped it
-abbrev pub runNumber : Ran → ℕ
+-- RUN: its number, the record, the steps, evaluations and tape bytes, and the number of what stopped it
+abbrev pub runNumber : RunAnswer → ℕ
 runNumber (N.Ended s steps evals bytes e) = 0
 runNumber (N.Refused why s) = number why
 
-abbrev pub runState : Ran → State
+abbrev pub runState : RunAnswer → State
 runState (N.Ended s steps evals bytes e) = s
 runState (N.Refused why s) = s
 
-abbrev pub runSteps : Ran → ℕ
+abbrev pub runSteps : RunAnswer → ℕ
 runSteps (N.Ended s steps evals bytes e) = steps
 runSteps (N.Refused why s) = 0
 
-abbrev pub runEvaluations : Ran → ℕ
+abbrev pub runEvaluations : RunAnswer → ℕ
 runEvaluations (N.Ended s steps evals bytes e) = evals
 runEvaluations (N.Refused why s) = 0
 
-abbrev pub runTape : Ran → ℕ
+abbrev pub runTape : RunAnswer → ℕ
 runTape (N.Ended s steps evals bytes e) = bytes
 runTape (N.Refused why s) = 0
 
-abbrev pub runWord : Ran → List ℕ
+abbrev pub runWord : RunAnswer → List ℕ
 runWord (N.Ended s steps evals bytes e) = endingWord e
 runWord (N.Refused why s) = []
 
-abbrev pub runStop : Ran → ℕ
+abbrev pub runStop : RunAnswer → ℕ
 runStop (N.Ended s steps evals bytes e) = stopNumber e
 runStop (N.Refused why s) = 0
 
 -- PICTURE: its number; and that of the children, which are listed beside it
-abbrev pub drawnNumber : Drawn → ℕ
-drawnNumber D.Done = 0
-drawnNumber (D.Refused why) = number why
+abbrev pub callNumber : CallAnswer → ℕ
+callNumber D.Done = 0
+callNumber (D.Refused why) = number why
 
-abbrev pub childrenNumber : Listed → ℕ
-childrenNumber l = drawnNumber (l .answer)
+abbrev pub childrenNumber : ChildrenAnswer → ℕ
+childrenNumber l = callNumber (l .answer)
 
 -- COUNTS: their number, and what was counted
-abbrev pub blankCounts : Counts
+abbrev pub blankCounts : Tally
 blankCounts = record { trues = 0; falses = 0; uncertain = 0; givenup = 0; queued = 0; share = 0 }
 
-abbrev pub countsNumber : Counted → ℕ
+abbrev pub countsNumber : CountsAnswer → ℕ
 countsNumber (C.Of k) = 0
 countsNumber (C.Refused why) = number why
 
-abbrev pub countsValues : Counted → Counts
+abbrev pub countsValues : CountsAnswer → Tally
 countsValues (C.Of k) = k
 countsValues (C.Refused why) = blankCounts

@@ -1,12 +1,12 @@
--- The definitions that the contracts cite, in the document's order.
+-- The definitions that the contracts cite, in the document's order. Pages whose names end in Computed are cited by private functions alone.
 pub mod Record
 pub mod Setup
-pub mod Product
+pub mod SetupComputed
 pub mod Listing
 pub mod Step
-pub mod ByChild
+pub mod StepComputed
 pub mod Run
-pub mod ByStep
+pub mod RunComputed
 pub mod View
 pub mod Room
 pub mod Move

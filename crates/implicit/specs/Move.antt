@@ -11,8 +11,8 @@ use Rattle.refusal.specs.declared.Refusal.{Refusal}
 use Rattle.refusal.specs.declared.Refusal.the-variants as R
 use Rattle.queue.specs.Ring.{content, stored}
 use Rattle.implicit.specs.declared.state.State.{State}
-use Rattle.implicit.specs.declared.state.Moved.{Moved}
-use Rattle.implicit.specs.declared.state.Moved.the-variants as M
+use Rattle.implicit.specs.declared.state.MoveAnswer.{MoveAnswer}
+use Rattle.implicit.specs.declared.state.MoveAnswer.the-variants as M
 use Rattle.implicit.specs.Record.{refusedUnless, soundRecord}
 use Rattle.implicit.specs.Step.{World, worldOf}
 
@@ -48,7 +48,7 @@ moveOf w ring =
     (refusedUnless (notMoved R.Room) (ltb 0 (length ring) && leb (w .state .used) (length ring)) (moved (movedWorld w ring)))
 
 -- the answer of a move, and the other ring afterwards: by a refusal the record as given, and the bytes as they were
-abbrev pub moveAnswer : State → MoveEnd → Moved
+abbrev pub moveAnswer : State → MoveEnd → MoveAnswer
 moveAnswer s (notMoved why) = M.Refused why s
 moveAnswer s (moved left) = M.Done (left .state)
 
@@ -57,6 +57,6 @@ otherAfter other (notMoved why) = other
 otherAfter other (moved left) = left .ring
 
 -- what a call answered, with the other ring afterwards, is what the move's end says, whatever the cells are: the call is not lent them
-abbrev pub MovesAs : State → List ℕ → List ℕ → Moved → List ℕ → Type 0
+abbrev pub MovesAs : State → List ℕ → List ℕ → MoveAnswer → List ℕ → Type 0
 MovesAs s ring other r after =
     (cells : List ℕ) → (r ≡ moveAnswer s (moveOf (worldOf s ring cells) other)) × (after ≡ otherAfter other (moveOf (worldOf s ring cells) other))

@@ -14,8 +14,8 @@ use Rattle.queue.specs.Directions.{usedOf, parameters}
 use Rattle.decide.specs.declared.Chosen.{Chosen}
 use Rattle.decide.specs.Damage.{legalSide}
 use Rattle.implicit.specs.declared.state.Ranges.{Ranges}
-use Rattle.implicit.specs.declared.state.Needed.{Needed}
-use Rattle.implicit.specs.declared.state.Needed.the-variants as N
+use Rattle.implicit.specs.declared.state.NeededAnswer.{NeededAnswer}
+use Rattle.implicit.specs.declared.state.NeededAnswer.the-variants as N
 use Rattle.implicit.specs.Record.{refusedUnless}
 use Rattle.implicit.specs.Setup.{rangesLegal, firstBytes}
 
@@ -32,7 +32,7 @@ unfoldable pub enoughBytes : Chosen → Ranges → ℕ → ℕ
 enoughBytes p r n = length (firstBytes p r) + n * stepGrowth (p .set)
 
 -- THE RING THAT IS ENOUGH FOR n STEPS, asked before there are a ring and cells: of a setup's refusals 1 and 3 are left
-unfoldable pub enoughRing : Chosen → Ranges → ℕ → Needed
+unfoldable pub enoughRing : Chosen → Ranges → ℕ → NeededAnswer
 enoughRing p r n =
     refusedUnless (N.Refused R.Side) (legalSide (p .width) && legalSide (p .height))
     (refusedUnless (N.Refused R.Parameter) (rangesLegal (p .set) r) (N.Bytes (enoughBytes p r n)))

@@ -13,8 +13,8 @@ use Rattle.decide.specs.declared.Chosen.{Chosen}
 use Rattle.implicit.specs.declared.state.State.{State}
 use Rattle.implicit.specs.declared.state.Ending.{Ending}
 use Rattle.implicit.specs.declared.state.Ending.the-variants as E
-use Rattle.implicit.specs.declared.state.Ran.{Ran}
-use Rattle.implicit.specs.declared.state.Ran.the-variants as A
+use Rattle.implicit.specs.declared.state.RunAnswer.{RunAnswer}
+use Rattle.implicit.specs.declared.state.RunAnswer.the-variants as A
 use Rattle.implicit.specs.Record.{refusedUnless, pixelCount, pixelCells, soundRecord, queueEmpty}
 use Rattle.implicit.specs.Step.{World, StepEnd, refused, finished, tapeStepOf}
 
@@ -57,24 +57,24 @@ runFrom (suc left) w tape =
     (goneOn w (tapeStepOf w tape) (λ next bytes. runFrom left next (drop bytes tape)))
 
 -- THE RUN
-pub data RunAnswer : Type 0 where
-  notRun : Refusal → RunAnswer
-  hasRun : RunEnd → RunAnswer
+pub data RunResult : Type 0 where
+  notRun : Refusal → RunResult
+  hasRun : RunEnd → RunResult
 
-unfoldable pub runOf : ℕ → World → List ℕ → RunAnswer
+unfoldable pub runOf : ℕ → World → List ℕ → RunResult
 runOf budget w tape =
     refusedUnless (notRun R.Damaged) (soundRecord (length (w .ring)) (w .state))
     (refusedUnless (notRun R.Cells) (leb (pixelCount (w .state .chosen)) (length (w .cells))) (hasRun (runFrom budget w tape)))
 
 -- its answer on a record, and the world afterwards
-abbrev pub runAnswer : State → RunAnswer → Ran
+abbrev pub runAnswer : State → RunResult → RunAnswer
 runAnswer s (notRun why) = A.Refused why s
 runAnswer s (hasRun e) = A.Ended (e .world .state) (e .steps) (e .evaluations) (e .tape) (e .ending)
 
-abbrev pub worldRun : World → RunAnswer → World
+abbrev pub worldRun : World → RunResult → World
 worldRun w (notRun why) = w
 worldRun w (hasRun e) = e .world
 
 -- what a call answered, with the ring and the cells afterwards, is what the run says
-abbrev pub RunsAs : World → RunAnswer → Ran → List ℕ → List ℕ → Type 0
+abbrev pub RunsAs : World → RunResult → RunAnswer → List ℕ → List ℕ → Type 0
 RunsAs w a r ring cells = (r ≡ runAnswer (w .state) a) × (ring ≡ worldRun w a .ring) × (cells ≡ worldRun w a .cells)

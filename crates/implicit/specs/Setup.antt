@@ -13,17 +13,17 @@ use Rattle.queue.specs.declared.Block.{Block}
 use Rattle.queue.specs.declared.directions.Direction.{Direction}
 use Rattle.queue.specs.declared.directions.Direction.the-variants as D
 use Rattle.queue.specs.Directions.{inUse, parameters}
-use Rattle.queue.specs.Block.{isInteger, parameterOf, withParameter, settledAt, startingLast}
+use Rattle.queue.specs.Block.{isInteger, parameterOf, withParameter, asQueuedAt, startingLast}
 use Rattle.decide.specs.declared.Chosen.{Chosen}
 use Rattle.decide.specs.Damage.{legalSide, legalSet}
-use Rattle.implicit.specs.declared.begin.SetupEnd.{SetupEnd}
-use Rattle.implicit.specs.declared.begin.SetupEnd.the-variants as E
-use Rattle.implicit.specs.declared.state.Needed.{Needed}
-use Rattle.implicit.specs.declared.state.Needed.the-variants as N
+use Rattle.implicit.specs.declared.setting_up.SetupEnd.{SetupEnd}
+use Rattle.implicit.specs.declared.setting_up.SetupEnd.the-variants as E
+use Rattle.implicit.specs.declared.state.NeededAnswer.{NeededAnswer}
+use Rattle.implicit.specs.declared.state.NeededAnswer.the-variants as N
 use Rattle.implicit.specs.declared.state.State.{State}
 use Rattle.implicit.specs.declared.state.Ranges.{Ranges}
-use Rattle.implicit.specs.declared.state.Started.{Started}
-use Rattle.implicit.specs.declared.state.Started.the-variants as S
+use Rattle.implicit.specs.declared.state.SetupAnswer.{SetupAnswer}
+use Rattle.implicit.specs.declared.state.SetupAnswer.the-variants as S
 use Rattle.queue.specs.Code.{parametersLegal}
 use Rattle.queue.specs.Ring.{stored}
 use Rattle.queue.specs.Queue as Queue
@@ -42,10 +42,10 @@ unfoldable pub rootBlock : Chosen → Ranges → Block
 rootBlock p r = record {
   x = record { index = 0; rank = 48 + startLevel p };
   y = record { index = 0; rank = 48 + startLevel p };
-  m = settledAt (inUse (p .set) D.M) (r .m);
-  n = settledAt (inUse (p .set) D.N) (r .n);
-  theta = settledAt (inUse (p .set) D.Theta) (r .theta);
-  t = settledAt (inUse (p .set) D.T) (r .t);
+  m = asQueuedAt (inUse (p .set) D.M) (r .m);
+  n = asQueuedAt (inUse (p .set) D.N) (r .n);
+  theta = asQueuedAt (inUse (p .set) D.Theta) (r .theta);
+  t = asQueuedAt (inUse (p .set) D.T) (r .t);
   dir = 0;
 }
 
@@ -80,7 +80,7 @@ setupRefusal p r len count =
     (refusedUnless (E.Rejected R.Room) (leb (length (firstBytes p r)) len) E.Begun)))
 
 -- the least ring with which a setup begins, asked before there are a ring and cells: of its refusals 1 and 3 are left
-unfoldable pub leastRing : Chosen → Ranges → Needed
+unfoldable pub leastRing : Chosen → Ranges → NeededAnswer
 leastRing p r =
     refusedUnless (N.Refused R.Side) (legalSide (p .width) && legalSide (p .height))
     (refusedUnless (N.Refused R.Parameter) (rangesLegal (p .set) r) (N.Bytes (length (firstBytes p r))))
@@ -110,7 +110,7 @@ abbrev pub cleared : Chosen → Chosen
 cleared p = record { width = p .width; height = p .height; set = p .set; reserved1 = 0; reserved2 = 0; reserved3 = 0 }
 
 -- THE SETUP: what it answers, and the ring and the cells afterwards, of which a refusal changes nothing
-abbrev pub startedBy : SetupEnd → State → Started
+abbrev pub startedBy : SetupEnd → State → SetupAnswer
 startedBy E.Begun s = S.Ready s
 startedBy (E.Rejected why) s = S.Refused why
 
@@ -118,8 +118,8 @@ abbrev pub ifBegun : SetupEnd → List ℕ → List ℕ → List ℕ
 ifBegun E.Begun after before = after
 ifBegun (E.Rejected why) after before = before
 
-unfoldable pub startedAnswer : Chosen → Ranges → ℕ → ℕ → Started
-startedAnswer p r len count = startedBy (setupRefusal p r len count) (startRecord p r len)
+unfoldable pub setupAnswer : Chosen → Ranges → ℕ → ℕ → SetupAnswer
+setupAnswer p r len count = startedBy (setupRefusal p r len count) (startRecord p r len)
 
 unfoldable pub ringBegun : Chosen → Ranges → List ℕ → List ℕ → List ℕ
 ringBegun p r ring cells = ifBegun (setupRefusal p r (length ring) (length cells)) (startRing p r ring) ring

@@ -23,8 +23,8 @@ use Rattle.decide.specs.Children.{childrenOf}
 use Rattle.decide.specs.Verdict.{allLegal}
 use Rattle.plan.specs.Plan.{outcomes, evaluations, eventsFor, cellsAfter}
 use Rattle.implicit.specs.declared.state.State.{State}
-use Rattle.implicit.specs.declared.state.Stepped.{Stepped}
-use Rattle.implicit.specs.declared.state.Stepped.the-variants as S
+use Rattle.implicit.specs.declared.state.StepAnswer.{StepAnswer}
+use Rattle.implicit.specs.declared.state.StepAnswer.the-variants as S
 use Rattle.implicit.specs.Record.{refusedUnless, pixelCount, soundRecord, putLast}
 use Rattle.implicit.specs.Listing.{frontOf}
 
@@ -82,8 +82,8 @@ worldLeft w b last head used vs = record {
 }
 
 -- neither the block nor a cell that it covers is damaged
-abbrev pub blockFine : Chosen → List ℕ → Block → Bool
-blockFine p cells b = undamaged p b && not (cellDamaged p b (Cells.meanings cells))
+abbrev pub blockSound : Chosen → List ℕ → Block → Bool
+blockSound p cells b = undamaged p b && not (cellDamaged p b (Cells.meanings cells))
 
 -- refusals 5, 7 and 6, with as many verdicts as children
 unfoldable pub judged : World → Block → Last → ℕ → ℕ → List ℕ → StepEnd
@@ -94,12 +94,12 @@ judged w b last head used own =
     (finished (worldLeft w b last head used own) (evaluations (outcomesOf w b own)) (length (childrenOf (w .state .chosen) b)))))
 
 -- refusals 8 of the block and 4, and then those
-unfoldable pub opened : Bool → World → List ℕ → Taken → StepEnd
-opened tape w vs T.Damaged = refused R.Damaged
-opened tape w vs T.Outside = refused R.Damaged
-opened tape w vs (T.Front b last head used) =
+unfoldable pub afterTaking : Bool → World → List ℕ → Taken → StepEnd
+afterTaking tape w vs T.Damaged = refused R.Damaged
+afterTaking tape w vs T.Outside = refused R.Damaged
+afterTaking tape w vs (T.Front b last head used) =
     let children = length (childrenOf (w .state .chosen) b) in
-    unless R.Damaged (blockFine (w .state .chosen) (w .cells) b)
+    unless R.Damaged (blockSound (w .state .chosen) (w .cells) b)
     (unless R.Verdicts (enoughVerdicts tape children (length vs))
     (judged w b last head used (take children vs)))
 
@@ -109,7 +109,7 @@ stepWith tape w vs =
     unless R.Damaged (soundRecord (length (w .ring)) (w .state))
     (unless R.Cells (leb (pixelCount (w .state .chosen)) (length (w .cells)))
     (unless R.Empty (ltb (w .state .taken) (w .state .queued))
-    (opened tape w vs (frontOf (w .state) (w .ring)))))
+    (afterTaking tape w vs (frontOf (w .state) (w .ring)))))
 
 abbrev pub stepOf : World → List ℕ → StepEnd
 stepOf = stepWith false
@@ -118,7 +118,7 @@ abbrev pub tapeStepOf : World → List ℕ → StepEnd
 tapeStepOf = stepWith true
 
 -- the answer of a step on a record, and the world afterwards: by a refusal the number, the record as given, and the world as it was
-abbrev pub stepAnswer : State → StepEnd → Stepped
+abbrev pub stepAnswer : State → StepEnd → StepAnswer
 stepAnswer s (refused why) = S.Refused why s
 stepAnswer s (finished left evals bytes) = S.Finished (left .state) evals bytes
 
@@ -127,5 +127,5 @@ worldAfter w (refused why) = w
 worldAfter w (finished left evals bytes) = left
 
 -- what a call answered, with the ring and the cells afterwards, is what the step's end says
-abbrev pub EndsAs : World → StepEnd → Stepped → List ℕ → List ℕ → Type 0
+abbrev pub EndsAs : World → StepEnd → StepAnswer → List ℕ → List ℕ → Type 0
 EndsAs w e r ring cells = (r ≡ stepAnswer (w .state) e) × (ring ≡ worldAfter w e .ring) × (cells ≡ worldAfter w e .cells)

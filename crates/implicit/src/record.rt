@@ -3,8 +3,9 @@
 ghost use mathlib.Core.Path.{_≡_};
 ghost use Rattle.implicit.specs.Record.{pixelCount, soundLast, soundCounts, soundRing, soundUse, soundRecord, queueEmpty, putLast};
 use crate::state::State;
+use coordinate::INDEX_LIMIT;
 use decide::Chosen;
-use decide::damage::is_legal_chosen;
+use decide::is_legal_chosen;
 use queue::Last;
 
 // Whether a record is not damaged, for a ring of so many bytes.
@@ -41,8 +42,8 @@ pub(crate) fn has_sound_use(s: State) -> bool
 fn is_sound_last(l: Last) -> bool
     ensures { λ r. ⌜ r ≡ soundLast l ⌝ }
 {
-    (l.x < 140737488355328)
-        & (l.y < 140737488355328)
+    (l.x < INDEX_LIMIT)
+        & (l.y < INDEX_LIMIT)
         & interval::is_legal(l.m, true)
         & interval::is_legal(l.n, true)
         & interval::is_legal(l.theta, true)

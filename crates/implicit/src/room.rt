@@ -3,24 +3,26 @@ ghost use mathlib.Core.Path.{_≡_};
 ghost use Prim.Native.Nat.{_≤_};
 ghost use Rattle.implicit.specs.Room.{stepGrowth, enoughRing};
 ghost use Rattle.implicit.specs.Move.{movedRecord, MovesAs};
-use crate::begin::least_ring;
 use crate::record::is_sound;
-use crate::state::Moved;
-use crate::state::Needed;
+use crate::setting_up::least_ring;
+use crate::state::MoveAnswer;
+use crate::state::NeededAnswer;
 use crate::state::Ranges;
 use crate::state::State;
 use decide::Chosen;
 use queue::Copied;
-use queue::directions::parameter_count;
+use queue::parameter_count;
 use refusal::Refusal;
 
 // A ring with which none of the first `steps` steps from the setup is refused for room, whatever the verdicts.
-pub fn enough_ring(chosen: Chosen, ranges: Ranges, steps: u32) -> Needed
+pub fn enough_ring(chosen: Chosen, ranges: Ranges, steps: u32) -> NeededAnswer
     ensures { λ r. ⌜ r ≡ enoughRing chosen ranges steps ⌝ }
 {
     match least_ring(chosen, ranges) {
-        Needed::Bytes(first) => { Needed::Bytes(first + steps as usize * step_growth(chosen.set)) }
-        Needed::Refused(why) => Needed::Refused(why),
+        NeededAnswer::Bytes(first) => {
+            NeededAnswer::Bytes(first + steps as usize * step_growth(chosen.set))
+        }
+        NeededAnswer::Refused(why) => NeededAnswer::Refused(why),
     }
 }
 
@@ -37,23 +39,23 @@ fn step_growth(set: u8) -> usize
 }
 
 // Moves the queue to another ring, longer or shorter: its bytes are copied from byte 0 on. The answer's record goes with the other ring; the old one stays.
-pub fn move_queue(s: State, ring: &[u8], other: &mut [u8]) -> Moved
+pub fn move_queue(s: State, ring: &[u8], other: &mut [u8]) -> MoveAnswer
     ensures { λ r. ⌜ MovesAs s (now (ring .entry)) (now (other .entry)) r (now (other .exit)) ⌝ }
 {
     if !is_sound(ring.len(), s) {
-        return Moved::Refused {
+        return MoveAnswer::Refused {
             why: Refusal::Damaged,
             state: s,
         };
     }
     let len = other.len();
     match queue::copy(ring, s.head, s.used, other) {
-        Copied::Done => Moved::Done(move_record(s, len)),
-        Copied::NoRoom => Moved::Refused {
+        Copied::Done => MoveAnswer::Done(move_record(s, len)),
+        Copied::NoRoom => MoveAnswer::Refused {
             why: Refusal::Room,
             state: s,
         },
-        Copied::Outside => Moved::Refused {
+        Copied::Outside => MoveAnswer::Refused {
             why: Refusal::Damaged,
             state: s,
         },

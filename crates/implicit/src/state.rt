@@ -1,6 +1,6 @@
 // The record of a picture being refined, and what the entries answer.
+use decide::Children;
 use decide::Chosen;
-use decide::children::Children;
 use interval::Interval;
 use queue::Last;
 use refusal::Refusal;
@@ -30,25 +30,25 @@ pub struct Ranges {
 }
 
 // A setup's answer.
-pub enum Started {
+pub enum SetupAnswer {
     Ready(State),
     Refused(Refusal),
 }
 
 // How many bytes a ring needs, so that a setup begins, or so many steps behind it.
-pub enum Needed {
+pub enum NeededAnswer {
     Bytes(usize),
     Refused(Refusal),
 }
 
 // A move's answer: the record over the other ring; or why not, with the record as it was given.
-pub enum Moved {
+pub enum MoveAnswer {
     Done(State),
     Refused { why: Refusal, state: State },
 }
 
 // A step's answer: the record it leaves, its evaluations and the verdict bytes it took; or why not, with the record as it was given.
-pub enum Stepped {
+pub enum StepAnswer {
     Finished {
         state: State,
         evaluations: u64,
@@ -73,7 +73,7 @@ pub enum Ending {
 }
 
 // A run's answer: the record that its finished steps leave, their number, evaluations and tape bytes, and the ending; or why it did not begin.
-pub enum Ran {
+pub enum RunAnswer {
     Ended {
         state: State,
         steps: u64,
@@ -88,20 +88,20 @@ pub enum Ran {
 }
 
 // Whether a call was done.
-pub enum Drawn {
+pub enum CallAnswer {
     Done,
     Refused(Refusal),
 }
 
 // The children of the front block, for the evaluator; none where the listing is refused.
-pub struct Listed {
-    pub answer: Drawn,
+pub struct ChildrenAnswer {
+    pub answer: CallAnswer,
     pub children: Children,
 }
 
 // Pixels by reading, given-up cells (these are uncertain too), queued blocks, and the settled pixels in thousandths.
 #[repr(C)]
-pub struct Counts {
+pub struct Tally {
     pub trues: u64,
     pub falses: u64,
     pub uncertain: u64,
@@ -111,7 +111,7 @@ pub struct Counts {
 }
 
 // The counts' answer.
-pub enum Counted {
-    Of(Counts),
+pub enum CountsAnswer {
+    Of(Tally),
     Refused(Refusal),
 }

@@ -5,70 +5,70 @@ ghost use mathlib.Core.Bool.{true};
 ghost use Prim.Native.Nat.{_+_, _^_, _≤_};
 ghost use lib.ListN.{length};
 ghost use Rattle.implicit.specs.Record.{pixelCount, soundRecord};
-ghost use Rattle.implicit.specs.View.{cellsFine, pictureLeft, shareOf, pictureAnswer, ifDrawn, countsFrom, countsOf, countsAnswer};
+ghost use Rattle.implicit.specs.View.{cellsSound, pictureLeft, shareOf, pictureAnswer, ifDone, countsFrom, countsOf, countsAnswer};
 use crate::record::is_sound;
 use crate::record::pixel_count;
-use crate::state::Counted;
-use crate::state::Counts;
-use crate::state::Drawn;
+use crate::state::CallAnswer;
+use crate::state::CountsAnswer;
 use crate::state::State;
-use image::Kind;
-use image::Tally;
-use image::TallyAnswer;
+use crate::state::Tally;
+use image::CellKind;
+use image::CellTally;
+use image::CellTallyAnswer;
 use refusal::Refusal;
 
 // Writes a byte for each pixel, rows from the top; bytes beyond the pixels stay.
-pub fn picture(s: State, cells: &[u64], out: &mut [u8]) -> Drawn
+pub fn picture(s: State, cells: &[u64], out: &mut [u8]) -> CallAnswer
     ensures { λ r. ⌜ r ≡ pictureAnswer s (now (cells .entry)) (length (now (out .entry))) ⌝ }
-    ensures { λ r. ⌜ now (out .exit) ≡ ifDrawn r (pictureLeft s (now (cells .entry)) (now (out .entry))) (now (out .entry)) ⌝ }
+    ensures { λ r. ⌜ now (out .exit) ≡ ifDone r (pictureLeft s (now (cells .entry)) (now (out .entry))) (now (out .entry)) ⌝ }
 {
     match examine(s, cells, out.len()) {
-        Drawn::Done => {
+        CallAnswer::Done => {
             draw(s, cells, out);
-            Drawn::Done
+            CallAnswer::Done
         }
-        Drawn::Refused(why) => Drawn::Refused(why),
+        CallAnswer::Refused(why) => CallAnswer::Refused(why),
     }
 }
 
 // The pixels by reading, the given-up cells, the queued blocks and the share that is settled.
-pub fn counts(s: State, cells: &[u64]) -> Counted
+pub fn counts(s: State, cells: &[u64]) -> CountsAnswer
     ensures { λ r. ⌜ r ≡ countsAnswer s (now (cells .entry)) ⌝ }
 {
     match examine(s, cells, pixel_count(s.chosen)) {
-        Drawn::Done => count_pixels(s, cells),
-        Drawn::Refused(why) => Counted::Refused(why),
+        CallAnswer::Done => count_pixels(s, cells),
+        CallAnswer::Refused(why) => CountsAnswer::Refused(why),
     }
 }
 
 // Whether so many bytes have room for the picture of a sound record with sound cells, or why not.
-fn examine(s: State, cells: &[u64], room: usize) -> Drawn
+fn examine(s: State, cells: &[u64], room: usize) -> CallAnswer
     ensures { λ r. ⌜ r ≡ pictureAnswer s (now (cells .entry)) room ⌝ }
 {
     let pixels = pixel_count(s.chosen);
     if !is_sound(s.len, s) {
-        return Drawn::Refused(Refusal::Damaged);
+        return CallAnswer::Refused(Refusal::Damaged);
     }
     if cells.len() < pixels {
-        return Drawn::Refused(Refusal::Cells);
+        return CallAnswer::Refused(Refusal::Cells);
     }
     if room < pixels {
-        return Drawn::Refused(Refusal::Picture);
+        return CallAnswer::Refused(Refusal::Picture);
     }
-    if are_fine(s, cells) {
-        Drawn::Done
+    if are_sound_cells(s, cells) {
+        CallAnswer::Done
     } else {
-        Drawn::Refused(Refusal::Damaged)
+        CallAnswer::Refused(Refusal::Damaged)
     }
 }
 
 // Whether no pixel's cell is damaged.
-fn are_fine(s: State, cells: &[u64]) -> bool
+fn are_sound_cells(s: State, cells: &[u64]) -> bool
     requires { ⌜ pixelCount (s .chosen) ≤ length (now cells) ⌝ }
-    ensures { λ r. ⌜ r ≡ cellsFine s (now (cells .entry)) ⌝ }
+    ensures { λ r. ⌜ r ≡ cellsSound s (now (cells .entry)) ⌝ }
 {
     let pixels = pixel_count(s.chosen);
-    !image::is_any(&cells[0..pixels], Kind::Damaged)
+    !image::cells_hold(&cells[0..pixels], CellKind::Damaged)
 }
 
 fn draw(s: State, cells: &[u64], out: &mut [u8])
@@ -79,24 +79,24 @@ fn draw(s: State, cells: &[u64], out: &mut [u8])
     image::draw(&cells[0..pixels], s.taken, &mut out[0..pixels]);
 }
 
-fn count_pixels(s: State, cells: &[u64]) -> Counted
+fn count_pixels(s: State, cells: &[u64]) -> CountsAnswer
     requires { ⌜ (soundRecord (s .len) s ≡ true) × (pixelCount (s .chosen) ≤ length (now cells)) ⌝ }
-    ensures { λ r. ⌜ r ≡ Counted.Of (countsOf s (now (cells .entry))) ⌝ }
+    ensures { λ r. ⌜ r ≡ CountsAnswer.Of (countsOf s (now (cells .entry))) ⌝ }
 {
     let p = s.chosen;
     let all = image::whole(p.width, p.height);
     match image::count(cells, p.width, p.height, all, s.taken) {
-        TallyAnswer::Of(t) => Counted::Of(with_share(s, t)),
-        TallyAnswer::Outside => Counted::Refused(Refusal::Cells),
+        CellTallyAnswer::Of(t) => CountsAnswer::Of(with_share(s, t)),
+        CellTallyAnswer::Outside => CountsAnswer::Refused(Refusal::Cells),
     }
 }
 
-fn with_share(s: State, t: Tally) -> Counts
+fn with_share(s: State, t: CellTally) -> Tally
     requires { ⌜ (soundRecord (s .len) s ≡ true) × (t .trues + t .falses ≤ pixelCount (s .chosen)) ⌝ }
     ensures { λ r. ⌜ r ≡ countsFrom s t ⌝ }
 {
     let pixels = pixel_count(s.chosen) as u64;
-    Counts {
+    Tally {
         trues: t.trues,
         falses: t.falses,
         uncertain: t.uncertain,

@@ -7,9 +7,9 @@ use lib.Ieee.{Float}
 use Rattle.refusal.specs.declared.Refusal.the-variants as R
 use Rattle.refusal.specs.declared.Whether.the-variants as W
 use Rattle.interval.specs.declared.Interval.{Interval}
-use Rattle.interval.specs.declared.Point.the-variants as P
-use Rattle.interval.specs.declared.Pieces.{Pieces}
-use Rattle.interval.specs.declared.Pieces.the-variants as C
+use Rattle.interval.specs.declared.PointAnswer.the-variants as P
+use Rattle.interval.specs.declared.PiecesAnswer.{PiecesAnswer}
+use Rattle.interval.specs.declared.PiecesAnswer.the-variants as C
 use Rattle.interval.specs.Answers.{pointAnswer, whetherAt, piecesFrom, piecesAt}
 
 pub point-yes : (t : Bool) (c d : Float) → t ≡ true → c ≡ d → P.At c ≡ pointAnswer t d
@@ -27,7 +27,7 @@ whether-not t b h e = sym (ap (λ (z : Bool). whetherAt z b) h ∙ ap (whetherAt
 pub whether-no : (t b : Bool) → t ≡ false → W.Refused R.Parameter ≡ whetherAt t b
 whether-no t b h = sym (ap (λ (z : Bool). whetherAt z b) h)
 
-pub pieces-yes : (t : Bool) (p : Pieces) (l : List Interval) → t ≡ true → p ≡ piecesFrom l → p ≡ piecesAt t l
+pub pieces-yes : (t : Bool) (p : PiecesAnswer) (l : List Interval) → t ≡ true → p ≡ piecesFrom l → p ≡ piecesAt t l
 pieces-yes t p l h e = e ∙ sym (ap (λ (z : Bool). piecesAt z l) h)
 
 pub pieces-no : (t : Bool) (l : List Interval) → t ≡ false → C.Refused R.Parameter ≡ piecesAt t l

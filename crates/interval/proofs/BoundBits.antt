@@ -11,7 +11,7 @@ use lib.Ieee.Compare.{differs-from-itself}
 use Rattle.refusal.specs.declared.Refusal.the-variants as R
 use Rattle.base.proofs.Test.{≡→T, cond-yes, cond-no, or-neither}
 use Rattle.interval.specs.declared.Interval.{Interval}
-use Rattle.interval.specs.declared.FromBits.the-variants as B
+use Rattle.interval.specs.declared.BitsAnswer.the-variants as B
 use Rattle.interval.specs.Bounds.{wholeBound, legalInterval, putInterval, InFormat}
 use Rattle.interval.specs.Answers.{boundsFrom, fromBits}
 use Rattle.interval.proofs.Legality.{legal-bounds, put-again, put-legal}
@@ -54,7 +54,7 @@ nan-high nan = refl
 nan-high (inf s) = refl
 nan-high (fin s m e) = refl
 
-is-nan : (x : Float) → isNan x ≡ true → x ≡ nan
+pub is-nan : (x : Float) → isNan x ≡ true → x ≡ nan
 unfolding isNan
 is-nan nan h = refl
 is-nan (inf s) h = absurd (false≢true h)

@@ -8,19 +8,20 @@ use lib.ListN.{length}
 use lib.Ieee.{eq}
 use lib.Ieee.Scale.{finite}
 use Rattle.base.proofs.Test.{≡→T, cases}
+use Rattle.base.specs.Lists.{Every}
 use Rattle.interval.specs.declared.Interval.{Interval}
-use Rattle.interval.specs.declared.Pieces.{Pieces}
+use Rattle.interval.specs.declared.PiecesAnswer.{PiecesAnswer}
 use Rattle.interval.specs.Bounds.{legalInterval, putInterval, InFormat}
 use Rattle.interval.specs.Cuts.{widthIs, spanOf, firstCut, laterCut}
 use Rattle.interval.specs.Answers.{piecesFrom, piecesAt, piecesOf}
 use Rattle.interval.proofs.Legality.{legal-bounds, put-legal, whole-ends}
-use Rattle.interval.proofs.ProperPieces.{Proper, Each, Few, few-back, few-count, span-proper, point-bounds, put-format}
+use Rattle.interval.proofs.ProperPieces.{Proper, Few, few-back, few-count, span-proper, point-bounds, put-format}
 use Rattle.interval.proofs.FirstCut.{le-itself, first-whole, first-up-to, first-from, first-one, first-two, first-three, first-real}
 use Rattle.interval.proofs.LaterCut.{later-proper, later-few}
 
 -- what holds of a list of pieces
 pub record Pieced (integer : Bool) (l : List Interval) : Type 0 where
-  pub proper : Each (Proper integer) l
+  pub proper : Every (Proper integer) l
   pub few : Few l
 
 -- ---- the first cut, by its kinds
@@ -59,30 +60,30 @@ pub later-good : (x : Interval) (integer : Bool) → InFormat x → legalInterva
 later-good x integer f h = record { proper = later-proper x integer f h; few = later-few x integer f h }
 
 -- ---- the answers
-pub record Answered (integer : Bool) (l : List Interval) (r : Pieces) : Type 0 where
+pub record Answered (integer : Bool) (l : List Interval) (r : PiecesAnswer) : Type 0 where
   pub pieces : piecesOf r ≡ l
-  pub proper : Each (Proper integer) (piecesOf r)
+  pub proper : Every (Proper integer) (piecesOf r)
   pub some : 1 ≤ length (piecesOf r)
   pub most : length (piecesOf r) ≤ 3
 
-answer : (integer : Bool) (l : List Interval) (r : Pieces) → Pieced integer l → r ≡ piecesFrom l → Answered integer l r
+answer : (integer : Bool) (l : List Interval) (r : PiecesAnswer) → Pieced integer l → r ≡ piecesFrom l → Answered integer l r
 answer integer l r g e =
     let back : piecesOf r ≡ l = ap piecesOf e ∙ few-back l (g .few) in
     let n = few-count l (g .few) in
     record {
       pieces = back;
-      proper = subst (Each (Proper integer)) (sym back) (g .proper);
+      proper = subst (Every (Proper integer)) (sym back) (g .proper);
       some = subst (λ (z : List Interval). 1 ≤ length z) (sym back) (n .0);
       most = subst (λ (z : List Interval). length z ≤ 3) (sym back) (n .1);
     }
 
 module _ (x : Interval) (integer : Bool) (f : InFormat x) (h : legalInterval x integer ≡ true) where
-  pub first-answered : (r : Pieces) → r ≡ piecesAt (legalInterval x integer) (firstCut (putInterval x) integer) → Answered integer (firstCut (putInterval x) integer) r
+  pub first-answered : (r : PiecesAnswer) → r ≡ piecesAt (legalInterval x integer) (firstCut (putInterval x) integer) → Answered integer (firstCut (putInterval x) integer) r
   first-answered r e =
       let l = firstCut (putInterval x) integer in
       answer integer l r (first-good (putInterval x) integer (put-format x f) (put-legal x integer ∙ h)) (e ∙ ap (λ (z : Bool). piecesAt z l) h)
 
-  pub later-answered : (r : Pieces) → r ≡ piecesAt (legalInterval x integer) (laterCut (putInterval x) integer) → Answered integer (laterCut (putInterval x) integer) r
+  pub later-answered : (r : PiecesAnswer) → r ≡ piecesAt (legalInterval x integer) (laterCut (putInterval x) integer) → Answered integer (laterCut (putInterval x) integer) r
   later-answered r e =
       let l = laterCut (putInterval x) integer in
       answer integer l r (later-good (putInterval x) integer (put-format x f) (put-legal x integer ∙ h)) (e ∙ ap (λ (z : Bool). piecesAt z l) h)

@@ -28,7 +28,7 @@ use Rattle.interval.proofs.UnitsOrder.{le-is}
 use Rattle.interval.proofs.WholeRounding.{plus-nonzero}
 use Rattle.interval.proofs.Wholeness.{times-whole, whole-times}
 use Rattle.interval.proofs.WholeOrder.{neg-leZ, cross-leZ, value-finite}
-use Rattle.interval.proofs.CutUpTo.{cut-units}
+use Rattle.interval.proofs.CutUpTo.{cut-units, nought-fits}
 
 pub record Good (c b : Float) : Type 0 where
   pub number : T (finite c)
@@ -61,10 +61,6 @@ least-put = refl
 least-whole : wholeBound (largestFinite true) ≡ true
 unfolding wholeBound inUnits
 least-whole = refl
-
-pub nought-fits : T (fits binary64 (fin false 0 (pos 0)))
-unfolding fits
-nought-fits = tt
 
 pub nought-put : plusZero (fin false 0 (pos 0)) ≡ fin false 0 (pos 0)
 unfolding zeroAs

@@ -17,11 +17,11 @@ use Rattle.interval.specs.Kinds.{kindOf, cutUpTo, cutPointAt, cutPointOf
 use Rattle.interval.proofs.Zeros.{as-again, as-fits, as-whole, keeps-finite, as-le-left, as-le-right}
 use Rattle.interval.proofs.Legality.{legal-bounds, whole-ends}
 use Rattle.interval.proofs.Patterns.{le-neg, neg-neg}
-use Rattle.interval.proofs.CutUpTo.{units-neg, neg-finite, neg-whole, half-finite}
+use Rattle.interval.proofs.CutUpTo.{units-neg, neg-finite, neg-whole, half-finite, nought-fits}
 use Rattle.interval.proofs.HalfBetween.{half-between, rounded-fits}
 use Rattle.interval.proofs.Wholeness.{near-whole}
 use Rattle.interval.proofs.WholeOrder.{whole-finite, whole-fits, whole-above, whole-below}
-use Rattle.interval.proofs.CutInside.{Good, up-to-good, nought-fits, nought-put, nought-whole}
+use Rattle.interval.proofs.CutInside.{Good, up-to-good, nought-put, nought-whole}
 
 -- c divides [a, b]
 pub record Divides (a b : Float) (integer : Bool) (c : Float) : Type 0 where

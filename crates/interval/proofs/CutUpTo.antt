@@ -27,17 +27,17 @@ use Rattle.interval.proofs.HalfSum.{units-of, integer-sum}
 use Rattle.interval.proofs.Compare.{lt-at, lt-units, below-is}
 
 -- ---- comparisons with zero
-zero-fits : T (fits binary64 (fin false 0 (pos 0)))
+pub nought-fits : T (fits binary64 (fin false 0 (pos 0)))
 unfolding fits
-zero-fits = tt
+nought-fits = tt
 
 pub under-zero : (b : Float) → T (fits binary64 b) → T (finite b) → lt b (ofBits binary64 0) ≡ ltZ (inUnits b) (pos 0)
 unfolding ofBits inUnits
-under-zero b f g = lt-units b (fin false 0 (pos 0)) f zero-fits g tt
+under-zero b f g = lt-units b (fin false 0 (pos 0)) f nought-fits g tt
 
 pub over-zero : (b : Float) → T (fits binary64 b) → T (finite b) → lt (ofBits binary64 0) b ≡ ltZ (pos 0) (inUnits b)
 unfolding ofBits inUnits
-over-zero b f g = lt-units (fin false 0 (pos 0)) b zero-fits f tt g
+over-zero b f g = lt-units (fin false 0 (pos 0)) b nought-fits f tt g
 
 pub cut-positive : (b : Float) → T (fits binary64 b) → T (finite b) → lt b (ofBits binary64 0) ≡ false → lt (ofBits binary64 0) b ≡ true → ofBits binary64 0 ≡ cutUpTo (inUnits b)
 unfolding ofBits

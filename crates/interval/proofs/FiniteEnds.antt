@@ -8,7 +8,8 @@ use lib.Ieee.Scale.{finite}
 use Rattle.base.proofs.Test.{≡→T, and-both}
 use Rattle.interval.specs.declared.kind.Kind.{Kind}
 use Rattle.interval.specs.declared.kind.Kind.the-variants.{Whole, UpTo, From, Between}
-use Rattle.interval.specs.Kinds.{kindOf, finiteEnds}
+use Rattle.interval.specs.Kinds.{kindOf}
+use Rattle.interval.specs.KindsComputed.{finiteEnds}
 
 -- -inf < x < +inf
 pub finite-test : (x i j : Float) → i ≡ inf false → j ≡ inf false → lt (neg i) x && lt x j ≡ finite x

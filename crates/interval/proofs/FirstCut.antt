@@ -11,10 +11,11 @@ use lib.Ieee.{Float, nan, inf, fin, binary64, sub, ofBits, lt, le, eq, fits}
 use lib.Ieee.Scale.{finite}
 use Rattle.base.proofs.Test.{≡→T, T→≡, and-left, and-right, cases, or-right}
 use Rattle.interval.specs.declared.Interval.{Interval}
-use Rattle.interval.specs.declared.Pieces.the-variants as C
+use Rattle.interval.specs.declared.PiecesAnswer.the-variants as C
 use Rattle.interval.specs.declared.kind.Kind.{Kind}
 use Rattle.interval.specs.declared.kind.Kind.the-variants as K
-use Rattle.interval.specs.Kinds.{kindOf, finiteEnds}
+use Rattle.interval.specs.Kinds.{kindOf}
+use Rattle.interval.specs.KindsComputed.{finiteEnds}
 use Rattle.interval.specs.Answers.{piecesFrom}
 use Rattle.interval.specs.Bounds.{inUnits, zeroAs, legalBounds, legalInterval, putInterval, sameInterval, InFormat}
 use Rattle.interval.specs.Cuts.{widthIs, pairOf, spanOf, keepIf, unlikeNext, deduped, legalThree, firstCut}
@@ -30,10 +31,10 @@ use Rattle.interval.proofs.FiniteEnds.{kind-ends, kind-whole, kind-up-t
 pub le-itself : (c : Float) → T (finite c) → le c c ≡ true
 le-itself nan g = absurd g
 le-itself (inf s) g = absurd g
-le-itself (fin s m e) g = opened (or-right (lt (fin s m e) (fin s m e)) (eq (fin s m e) (fin s m e)) (eq-self-low (fin s m e) (inf false) above))
+le-itself (fin s m e) g = afterTaking (or-right (lt (fin s m e) (fin s m e)) (eq (fin s m e) (fin s m e)) (eq-self-low (fin s m e) (inf false) above))
   where
-    opened : lt (fin s m e) (fin s m e) || eq (fin s m e) (fin s m e) ≡ true → le (fin s m e) (fin s m e) ≡ true
-    opened = unfold le in λ h. h
+    afterTaking : lt (fin s m e) (fin s m e) || eq (fin s m e) (fin s m e) ≡ true → le (fin s m e) (fin s m e) ≡ true
+    afterTaking = unfold le in λ h. h
 
     above : le (fin s m e) (inf false) ≡ true
     above = unfold le in refl
@@ -75,22 +76,22 @@ module _ (x : Interval) (integer : Bool) (h : legalInterval x integer ≡ true) 
   high-self = eq-self-high (x .lower) (x .upper) (legal-order x integer h)
 
   same-low : sameInterval (spanOf (x .lower) (x .lower)) (spanOf (x .lower) (x .upper)) ≡ eq (x .lower) (x .upper)
-  same-low = same-put (pairOf (x .lower) (x .lower)) (pairOf (x .lower) (x .upper)) ∙ opened
+  same-low = same-put (pairOf (x .lower) (x .lower)) (pairOf (x .lower) (x .upper)) ∙ afterTaking
     where
-      opened : sameInterval (pairOf (x .lower) (x .lower)) (pairOf (x .lower) (x .upper)) ≡ eq (x .lower) (x .upper)
-      opened = unfold sameInterval in ap (λ (z : Bool). z && eq (x .lower) (x .upper)) low-self
+      afterTaking : sameInterval (pairOf (x .lower) (x .lower)) (pairOf (x .lower) (x .upper)) ≡ eq (x .lower) (x .upper)
+      afterTaking = unfold sameInterval in ap (λ (z : Bool). z && eq (x .lower) (x .upper)) low-self
 
   same-high : sameInterval (spanOf (x .lower) (x .upper)) (spanOf (x .upper) (x .upper)) ≡ eq (x .lower) (x .upper)
-  same-high = same-put (pairOf (x .lower) (x .upper)) (pairOf (x .upper) (x .upper)) ∙ opened
+  same-high = same-put (pairOf (x .lower) (x .upper)) (pairOf (x .upper) (x .upper)) ∙ afterTaking
     where
-      opened : sameInterval (pairOf (x .lower) (x .upper)) (pairOf (x .upper) (x .upper)) ≡ eq (x .lower) (x .upper)
-      opened = unfold sameInterval in ap (λ (z : Bool). eq (x .lower) (x .upper) && z) high-self ∙ and-true (eq (x .lower) (x .upper))
+      afterTaking : sameInterval (pairOf (x .lower) (x .upper)) (pairOf (x .upper) (x .upper)) ≡ eq (x .lower) (x .upper)
+      afterTaking = unfold sameInterval in ap (λ (z : Bool). eq (x .lower) (x .upper) && z) high-self ∙ and-true (eq (x .lower) (x .upper))
 
   same-ends : sameInterval (spanOf (x .lower) (x .lower)) (spanOf (x .upper) (x .upper)) ≡ eq (x .lower) (x .upper)
-  same-ends = same-put (pairOf (x .lower) (x .lower)) (pairOf (x .upper) (x .upper)) ∙ opened
+  same-ends = same-put (pairOf (x .lower) (x .lower)) (pairOf (x .upper) (x .upper)) ∙ afterTaking
     where
-      opened : sameInterval (pairOf (x .lower) (x .lower)) (pairOf (x .upper) (x .upper)) ≡ eq (x .lower) (x .upper)
-      opened = unfold sameInterval in and-self (eq (x .lower) (x .upper))
+      afterTaking : sameInterval (pairOf (x .lower) (x .lower)) (pairOf (x .upper) (x .upper)) ≡ eq (x .lower) (x .upper)
+      afterTaking = unfold sameInterval in and-self (eq (x .lower) (x .upper))
 
 -- equal bounds have no width
 same-units : (a b : Float) → T (fits binary64 a) → T (fits binary64 b) → eq a b ≡ true → inUnits a ≡ inUnits b

@@ -11,8 +11,10 @@ use lib.Ieee.{Float, binary64, fits, le}
 use lib.Ieee.Scale.{finite}
 use borrow.Author.Tests.{ne-eqb}
 use Rattle.base.proofs.Test.{≡→T, and-left, by-test, cond-yes, cond-no}
+use Rattle.base.specs.Lists.{Every}
+use Rattle.base.proofs.ListLaws.{every-append}
 use Rattle.interval.specs.declared.Interval.{Interval}
-use Rattle.interval.specs.declared.Pieces.the-variants as P
+use Rattle.interval.specs.declared.PiecesAnswer.the-variants as P
 use Rattle.interval.specs.Bounds.{inUnits, legalInterval, putInterval, InFormat, zeroAs}
 use Rattle.interval.specs.Kinds.{midpointOf, cutPointOf}
 use Rattle.interval.specs.Cuts.{widthIs, subdivisible, spanOf, narrowed, thinned, threeAt, laterCut}
@@ -21,7 +23,7 @@ use Rattle.interval.proofs.Zeros.{as-units}
 use Rattle.interval.proofs.Legality.{legal-bounds, whole-ends}
 use Rattle.interval.proofs.CutPoint.{Divides, cut-good, half-divides}
 use Rattle.interval.proofs.Middles.{two-apart, middle-half, middle-whole}
-use Rattle.interval.proofs.ProperPieces.{Proper, Each, Few, each-append, span-proper, order-of, low-of, high-of, bounds-from, number-low, number-high, point-bounds}
+use Rattle.interval.proofs.ProperPieces.{Proper, Few, span-proper, order-of, low-of, high-of, bounds-from, number-low, number-high, point-bounds}
 
 -- ---- a point has no width
 no-width : (k : ℕ) (c : Float) → (0 ≡ k * 2 ^ 1074 → ⊥) → widthIs k (spanOf c c) ≡ false
@@ -97,7 +99,7 @@ unfolding thinned
 thinned-proper p h = by-test OneAtMost (widthIs 1 p) [] (narrowed p ∷ []) (λ e. tt) (λ e. narrowed-proper p h)
 
 -- ---- all of them
-thin-each : (l : List Interval) → OneAtMost l → Each (Proper true) l
+thin-each : (l : List Interval) → OneAtMost l → Every (Proper true) l
 thin-each [] h = tt
 thin-each (p ∷ []) h = (h, tt)
 thin-each (p ∷ q ∷ l) h = absurd h
@@ -123,15 +125,15 @@ few-sides (u ∷ []) p (q ∷ []) h k = tt
 few-sides (u ∷ []) p (q ∷ s ∷ r) h k = absurd k
 few-sides (u ∷ v ∷ l) p r h k = absurd h
 
-pub later-proper : (x : Interval) (integer : Bool) → InFormat x → legalInterval x integer ≡ true → Each (Proper integer) (laterCut x integer)
+pub later-proper : (x : Interval) (integer : Bool) → InFormat x → legalInterval x integer ≡ true → Every (Proper integer) (laterCut x integer)
 later-proper x true f h =
     let t = three-proper x true f h in
     let c = cutPointOf x true in
     let l = thinned (spanOf (x .lower) c) in
     let r = thinned (spanOf c (x .upper)) in
-    subst (Each (Proper true)) (sym (later-integer x))
-    (each-append (Proper true) l (spanOf c c ∷ r) (thin-each l (thinned-proper (spanOf (x .lower) c) (t .left))) (t .middle, thin-each r (thinned-proper (spanOf c (x .upper)) (t .right))))
-later-proper x false f h = let t = three-proper x false f h in subst (Each (Proper false)) (sym (later-real x)) (t .left, (t .middle, (t .right, tt)))
+    subst (Every (Proper true)) (sym (later-integer x))
+    (every-append (Proper true) l (spanOf c c ∷ r) (thin-each l (thinned-proper (spanOf (x .lower) c) (t .left))) (t .middle, thin-each r (thinned-proper (spanOf c (x .upper)) (t .right))))
+later-proper x false f h = let t = three-proper x false f h in subst (Every (Proper false)) (sym (later-real x)) (t .left, (t .middle, (t .right, tt)))
 
 pub later-few : (x : Interval) (integer : Bool) → InFormat x → legalInterval x integer ≡ true → Few (laterCut x integer)
 later-few x true f h =

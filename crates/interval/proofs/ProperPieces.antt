@@ -2,7 +2,7 @@
 -- Assumes nothing.
 use mathlib.Core.Path.{_≡_, refl, _∙_}
 use mathlib.Core.Bool.{Bool, true, false, _&&_, _||_}
-use mathlib.Core.List.{List, [], _∷_, _++_}
+use mathlib.Core.List.{List, [], _∷_}
 use Prim.Native.Nat.{_≤_}
 use native.Mathlib.Omega.{arith}
 use lib.Dec.{T}
@@ -24,15 +24,6 @@ pub record Proper (integer : Bool) (p : Interval) : Type 0 where
   pub put : putInterval p ≡ p
   pub format : InFormat p
 
--- of every piece of a list
-abbrev pub Each : (Interval → Type 0) → List Interval → Type 0
-Each P [] = T true
-Each P (p ∷ l) = P p × Each P l
-
-pub each-append : (P : Interval → Type 0) (l m : List Interval) → Each P l → Each P m → Each P (l ++ m)
-each-append P [] m h k = k
-each-append P (p ∷ l) m h k = (h .0, each-append P l m (h .1) k)
-
 -- one to three
 abbrev pub Few : List Interval → Type 0
 Few [] = T false
@@ -48,13 +39,16 @@ few-count (p ∷ q ∷ []) h = (omega arith, omega arith)
 few-count (p ∷ q ∷ r ∷ []) h = (omega arith, omega arith)
 few-count (p ∷ q ∷ r ∷ s ∷ l) h = absurd h
 
--- an answer holds its pieces
+-- an answer holds its pieces, three at most
+pub pieces-back : (l : List Interval) → length l ≤ 3 → piecesOf (piecesFrom l) ≡ l
+pieces-back [] h = refl
+pieces-back (p ∷ []) h = refl
+pieces-back (p ∷ q ∷ []) h = refl
+pieces-back (p ∷ q ∷ r ∷ []) h = refl
+pieces-back (p ∷ q ∷ r ∷ s ∷ l) h = absurd (omega arith)
+
 pub few-back : (l : List Interval) → Few l → piecesOf (piecesFrom l) ≡ l
-few-back [] h = absurd h
-few-back (p ∷ []) h = refl
-few-back (p ∷ q ∷ []) h = refl
-few-back (p ∷ q ∷ r ∷ []) h = refl
-few-back (p ∷ q ∷ r ∷ s ∷ l) h = absurd h
+few-back l h = pieces-back l (few-count l h .1)
 
 pub put-format : (x : Interval) → InFormat x → InFormat (putInterval x)
 unfolding putInterval
@@ -93,10 +87,10 @@ number-high (inf s) g = absurd g
 number-high (fin s m e) g = refl
 
 pub le-self : (a c : Float) → le a c ≡ true → le c c ≡ true
-le-self a c h = opened (or-right (lt c c) (eq c c) (eq-self-high a c h))
+le-self a c h = afterTaking (or-right (lt c c) (eq c c) (eq-self-high a c h))
   where
-    opened : lt c c || eq c c ≡ true → le c c ≡ true
-    opened = unfold le in λ e. e
+    afterTaking : lt c c || eq c c ≡ true → le c c ≡ true
+    afterTaking = unfold le in λ e. e
 
 -- the point [c, c]
 pub point-bounds : (a c : Float) → le a c ≡ true → T (finite c) → legalBounds c c ≡ true

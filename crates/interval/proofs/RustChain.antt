@@ -80,16 +80,16 @@ side (fin s m e) f g =
     (units-side s X)))
 
 -- ---- twice a number, either way round
-unlike-turn : (s : Bool) → unlike false s ≡ unlike s false
-unlike-turn true = refl
-unlike-turn false = refl
+unlike-swap : (s : Bool) → unlike false s ≡ unlike s false
+unlike-swap true = refl
+unlike-swap false = refl
 
 two-first : (b : Float) → mul binary64 two b ≡ mul binary64 b two
 unfolding mul
 two-first nan = refl
-two-first (inf s) = ap inf (unlike-turn s)
+two-first (inf s) = ap inf (unlike-swap s)
 two-first (fin s m e) =
-    ap (λ (z : Bool). round binary64 z (1 * 2 * (m * up e)) (1 * down e)) (unlike-turn s)
+    ap (λ (z : Bool). round binary64 z (1 * 2 * (m * up e)) (1 * down e)) (unlike-swap s)
     ∙ ap (λ (z : ℕ). round binary64 (unlike s false) z (1 * down e)) (mul-comm 2 (m * up e))
     ∙ ap (λ (z : ℕ). round binary64 (unlike s false) (m * up e * 2) z) (one-mul (down e) ∙ sym (mul-one (down e)))
 

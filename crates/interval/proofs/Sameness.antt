@@ -66,14 +66,14 @@ eq-self-high (inf s) nan h = absurd (false≢true h)
 eq-self-high (fin s m e) nan h = absurd (false≢true h)
 
 -- either way round
-eqb-turn : (a b : ℕ) → eqb a b ≡ true → eqb b a ≡ true
-eqb-turn a b h = is-true (eqb b a) (eq→eqb (sym (eqb→eq a b (subst T (sym h) tt))))
+eqb-swap : (a b : ℕ) → eqb a b ≡ true → eqb b a ≡ true
+eqb-swap a b h = is-true (eqb b a) (eq→eqb (sym (eqb→eq a b (subst T (sym h) tt))))
 
-level-turn : (s : Bool) (a : ℕ) (t : Bool) (b : ℕ) → level s a t b ≡ true → level t b s a ≡ true
-level-turn s a t b h =
+level-swap : (s : Bool) (a : ℕ) (t : Bool) (b : ℕ) → level s a t b ≡ true → level t b s a ≡ true
+level-swap s a t b h =
     let f : eqb a b ≡ true = and-left (eqb a b) (Bool·beq s t || eqb a 0) h in
     let e : a ≡ b = eqb→eq a b (≡→T f) in
-    ap (λ (z : Bool). z && (Bool·beq t s || eqb b 0)) (eqb-turn a b f) ∙ sides s t (eqb b 0) (subst (λ (z : ℕ). Bool·beq s t || eqb z 0 ≡ true) e (and-right (eqb a b) (Bool·beq s t || eqb a 0) h))
+    ap (λ (z : Bool). z && (Bool·beq t s || eqb b 0)) (eqb-swap a b f) ∙ sides s t (eqb b 0) (subst (λ (z : ℕ). Bool·beq s t || eqb z 0 ≡ true) e (and-right (eqb a b) (Bool·beq s t || eqb a 0) h))
   where
     sides : (s t x : Bool) → Bool·beq s t || x ≡ true → Bool·beq t s || x ≡ true
     sides true true x h = refl
@@ -92,10 +92,10 @@ eq-sym (inf false) (inf false) h = refl
 eq-sym (inf s) (fin t n d) h = absurd (false≢true h)
 eq-sym (fin s m e) nan h = absurd (false≢true h)
 eq-sym (fin s m e) (inf t) h = absurd (false≢true h)
-eq-sym (fin s m e) (fin t n d) h = level-turn s (m * up e * down d) t (n * up d * down e) h
+eq-sym (fin s m e) (fin t n d) h = level-swap s (m * up e * down d) t (n * up d * down e) h
 
-pub eq-turn : (x y : Float) → eq x y ≡ eq y x
-eq-turn x y = both-ways (eq x y) (eq y x) (eq-sym x y) (eq-sym y x)
+pub eq-swap : (x y : Float) → eq x y ≡ eq y x
+eq-swap x y = both-ways (eq x y) (eq y x) (eq-sym x y) (eq-sym y x)
 
 -- ---- two intervals
 pub same-put : (x y : Interval) → sameInterval (putInterval x) (putInterval y) ≡ sameInterval x y

@@ -127,12 +127,12 @@ module _ (a m b : Float) (fa : T (fits binary64 a)) (fm : T (fits binary64 m)) (
       (units (wholeNear m) (wholeNear b) (whole-fits m fm) (whole-fits b fb) (whole-finite m fm gm) (whole-finite b fb gb) (whole-mono m b fm fb gm gb h))
       (units (wholeNear b) b (whole-fits b fb) fb (whole-finite b fb gb) gb (eq→le (wholeNear b) b (whole-is b fb ∙ w))))
 
-  eq-turn : (x y : Float) → T (fits binary64 x) → T (fits binary64 y) → T (finite x) → T (finite y) → eq x y ≡ true → T (leZ (inUnits y) (inUnits x))
-  eq-turn x y f g fx fy e = subst T (le-units y x g f fy fx) (eq→le y x (eq-sym x y e))
+  eq-swap : (x y : Float) → T (fits binary64 x) → T (fits binary64 y) → T (finite x) → T (finite y) → eq x y ≡ true → T (leZ (inUnits y) (inUnits x))
+  eq-swap x y f g fx fy e = subst T (le-units y x g f fy fx) (eq→le y x (eq-sym x y e))
 
   pub whole-below : wholeBound a ≡ true → T (le a m) → T (le a (wholeNear m))
   whole-below w h =
       subst T (sym (le-units a (wholeNear m) fa (whole-fits m fm) ga (whole-finite m fm gm)))
       (leZ-trans (inUnits a) (inUnits (wholeNear a)) (inUnits (wholeNear m))
-      (eq-turn (wholeNear a) a (whole-fits a fa) fa (whole-finite a fa ga) ga (whole-is a fa ∙ w))
+      (eq-swap (wholeNear a) a (whole-fits a fa) fa (whole-finite a fa ga) ga (whole-is a fa ∙ w))
       (units (wholeNear a) (wholeNear m) (whole-fits a fa) (whole-fits m fm) (whole-finite a fa ga) (whole-finite m fm gm) (whole-mono a m fa fm ga gm h)))

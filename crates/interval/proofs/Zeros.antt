@@ -129,9 +129,9 @@ level-zero s r b = and-implied (eqb 0 b) (Bool·beq s r || true) (λ e. or-right
 level-over : (r s : Bool) (b : ℕ) → level r b s 0 ≡ eqb b 0
 level-over r s b = and-implied (eqb b 0) (Bool·beq r s || eqb b 0) (or-right (Bool·beq r s) (eqb b 0))
 
-eqb-turn : (b : ℕ) → eqb b 0 ≡ eqb 0 b
-eqb-turn zero = refl
-eqb-turn (suc b) = eqb·suc-zero b ∙ sym (eqb·zero-suc b)
+eqb-swap : (b : ℕ) → eqb b 0 ≡ eqb 0 b
+eqb-swap zero = refl
+eqb-swap (suc b) = eqb·suc-zero b ∙ sym (eqb·zero-suc b)
 
 module _ (s t : Bool) (e : ℤ) (r : Bool) (n : ℕ) (d : ℤ) where
   none : (u : ℤ) (k : ℕ) → 0 * up u * k ≡ 0
@@ -154,7 +154,7 @@ module _ (s t : Bool) (e : ℤ) (r : Bool) (n : ℕ) (d : ℤ) where
 
   level-right : level r (n * up d * 1) t (0 * 1 * down d) ≡ level r (n * up d * down e) s (0 * up e * down d)
   level-right =
-      ap (λ (z : ℕ). level r (n * up d * 1) t z) (none (pos 0) (down d)) ∙ level-over r t (n * up d * 1) ∙ eqb-turn (n * up d * 1) ∙ scaled-eq (n * up d) 1 (zero-lt-suc 0) ∙ sym (scaled-eq (n * up d) (down e) (down-pos e)) ∙ sym (eqb-turn (n * up d * down e))
+      ap (λ (z : ℕ). level r (n * up d * 1) t z) (none (pos 0) (down d)) ∙ level-over r t (n * up d * 1) ∙ eqb-swap (n * up d * 1) ∙ scaled-eq (n * up d) 1 (zero-lt-suc 0) ∙ sym (scaled-eq (n * up d) (down e) (down-pos e)) ∙ sym (eqb-swap (n * up d * down e))
       ∙ sym (ap (λ (z : ℕ). level r (n * up d * down e) s z) (none e (down d)) ∙ level-over r s (n * up d * down e))
 
 pub as-lt-left : (t : Bool) (x y : Float) → lt (zeroAs t x) y ≡ lt x y

@@ -1,7 +1,7 @@
 -- Document 01, the paragraph on the cut point: the four kinds of interval, told apart by which ends are numbers, and the point at which
 -- each is cut. The midpoint of the paragraph before goes by the same kinds.
 use Prim.Native.Nat.{ℕ, _*_, _-_, _^_}
-use mathlib.Core.Bool.{Bool, true, false, cond, _&&_}
+use mathlib.Core.Bool.{Bool, true, false, cond}
 use lib.IntN.{ℤ, pos, negℤ, _*ℤ_}
 use lib.Signed.{ltZ}
 use lib.Ieee.{Float, fin, neg}
@@ -15,13 +15,6 @@ use Rattle.interval.specs.Middle.{rounded, halfSum, largestFinite, whole
 -- the kind, by which ends are finite
 unfoldable pub kindOf : Float → Float → Kind
 kindOf a b = cond (finite a) (cond (finite b) (Between a b) (From a)) (cond (finite b) (UpTo b) Whole)
-
--- what a kind carries is finite
-abbrev pub finiteEnds : Kind → Bool
-finiteEnds Whole = true
-finiteEnds (UpTo b) = finite b
-finiteEnds (From a) = finite a
-finiteEnds (Between a b) = finite a && finite b
 
 -- the midpoint by kinds: 0 for the whole line, a largest number on the open side of a half line
 unfoldable pub middleAt : Kind → Float

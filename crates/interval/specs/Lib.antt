@@ -2,6 +2,7 @@
 pub mod Bounds
 pub mod Middle
 pub mod Kinds
+pub mod KindsComputed
 pub mod Cuts
 pub mod Fraction
 pub mod Answers

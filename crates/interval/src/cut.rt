@@ -9,7 +9,7 @@ ghost use Rattle.interval.specs.Answers.{piecesFrom};
 ghost use Rattle.interval.specs.Bounds.{legalInterval, putInterval};
 ghost use Rattle.interval.specs.Cuts.{pairOf, spanOf, widthIs, narrowed, thinned, firstCut, laterCut};
 use crate::Interval;
-use crate::Pieces;
+use crate::PiecesAnswer;
 use crate::kind::Kind;
 use crate::kind::cut_point;
 use crate::kind::kind_of;
@@ -25,7 +25,7 @@ fn span(a: f64, b: f64) -> Interval
 }
 
 // The first cut of a finite interval: its ends apart, unless they are one integer or next to each other.
-fn first_between(a: f64, b: f64, integer: bool) -> Pieces
+fn first_between(a: f64, b: f64, integer: bool) -> PiecesAnswer
     requires { ⌜ legalInterval (pairOf a b) integer ≡ true ⌝ }
     requires { ⌜ T (finite a && finite b) ⌝ }
     ensures { λ r. ⌜ r ≡ piecesFrom (firstCut (pairOf a b) integer) ⌝ }
@@ -33,24 +33,24 @@ fn first_between(a: f64, b: f64, integer: bool) -> Pieces
     let low = span(a, a);
     let high = span(b, b);
     if integer & (a == b) {
-        return Pieces::One(low);
+        return PiecesAnswer::One(low);
     }
     if integer & (b - a == 1.0) {
-        return Pieces::Two(low, high);
+        return PiecesAnswer::Two(low, high);
     }
-    Pieces::Three(low, span(a, b), high)
+    PiecesAnswer::Three(low, span(a, b), high)
 }
 
 // The first cut: an infinite end is no piece of its own.
-pub(crate) fn first(x: Interval, integer: bool) -> Pieces
+pub(crate) fn first(x: Interval, integer: bool) -> PiecesAnswer
     requires { ⌜ legalInterval x integer ≡ true ⌝ }
     requires { ⌜ putInterval x ≡ x ⌝ }
     ensures { λ r. ⌜ r ≡ piecesFrom (firstCut x integer) ⌝ }
 {
     match kind_of(x) {
-        Kind::Whole => Pieces::One(x),
-        Kind::UpTo(b) => Pieces::Two(x, span(b, b)),
-        Kind::From(a) => Pieces::Two(span(a, a), x),
+        Kind::Whole => PiecesAnswer::One(x),
+        Kind::UpTo(b) => PiecesAnswer::Two(x, span(b, b)),
+        Kind::From(a) => PiecesAnswer::Two(span(a, a), x),
         Kind::Between(a, b) => first_between(a, b, integer),
     }
 }
@@ -77,7 +77,7 @@ fn narrow(p: Interval) -> Interval
 }
 
 // A point of an integer parameter, and what is left of the pieces on both sides of it.
-fn around(left: Interval, point: Interval, right: Interval) -> Pieces
+fn around(left: Interval, point: Interval, right: Interval) -> PiecesAnswer
     requires { ⌜ (legalInterval left true ≡ true) × (legalInterval right true ≡ true) ⌝ }
     ensures { λ r. ⌜ r ≡ piecesFrom (thinned left ++ (point ∷ thinned right)) ⌝ }
 {
@@ -85,21 +85,21 @@ fn around(left: Interval, point: Interval, right: Interval) -> Pieces
     let r = narrow(right);
     if is_gone(left) {
         if is_gone(right) {
-            Pieces::One(point)
+            PiecesAnswer::One(point)
         } else {
-            Pieces::Two(point, r)
+            PiecesAnswer::Two(point, r)
         }
     } else {
         if is_gone(right) {
-            Pieces::Two(l, point)
+            PiecesAnswer::Two(l, point)
         } else {
-            Pieces::Three(l, point, r)
+            PiecesAnswer::Three(l, point, r)
         }
     }
 }
 
 // The later cut. It is asked of intervals that are not subdivisible too; the point is always a piece.
-pub(crate) fn later(x: Interval, integer: bool) -> Pieces
+pub(crate) fn later(x: Interval, integer: bool) -> PiecesAnswer
     requires { ⌜ legalInterval x integer ≡ true ⌝ }
     ensures { λ r. ⌜ r ≡ piecesFrom (laterCut x integer) ⌝ }
 {
@@ -110,6 +110,6 @@ pub(crate) fn later(x: Interval, integer: bool) -> Pieces
     if integer {
         around(left, point, right)
     } else {
-        Pieces::Three(left, point, right)
+        PiecesAnswer::Three(left, point, right)
     }
 }

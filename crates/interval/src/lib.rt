@@ -4,7 +4,7 @@
 // interval, and puts the zeros first, -0 below and +0 above.
 ghost use mathlib.Core.Path.{_≡_};
 ghost use mathlib.Core.Bool.{false};
-ghost use lib.Ieee.{binary64, toBits};
+ghost use lib.Ieee.{binary64, ofBits, toBits};
 ghost use Rattle.interval.specs.Answers.{pointAnswer, whetherAt, piecesAt, fromBits};
 ghost use Rattle.interval.specs.Bounds.{legalInterval, putInterval, sameInterval};
 ghost use Rattle.interval.specs.Cuts.{subdivisible, firstCut, laterCut};
@@ -31,13 +31,13 @@ pub struct Interval {
 }
 
 // A point of an interval.
-pub enum Point {
+pub enum PointAnswer {
     At(f64),
     Refused(Refusal),
 }
 
 // What a cut gives, in order.
-pub enum Pieces {
+pub enum PiecesAnswer {
     One(Interval),
     Two(Interval, Interval),
     Three(Interval, Interval, Interval),
@@ -45,7 +45,7 @@ pub enum Pieces {
 }
 
 // The interval that two bit patterns stand for.
-pub enum FromBits {
+pub enum BitsAnswer {
     Bounds(Interval),
     Refused(Refusal),
 }
@@ -77,35 +77,35 @@ pub fn is_same(x: Interval, y: Interval) -> bool
 }
 
 // The midpoint, as IEEE 1788 has it; a zero is +0.
-pub fn midpoint(x: Interval) -> Point
+pub fn midpoint(x: Interval) -> PointAnswer
     ensures { λ r. ⌜ r ≡ pointAnswer (legalInterval x false) (midpointOf (putInterval x)) ⌝ }
 {
     if is_legal(x, false) {
-        Point::At(kind::middle(kind::kind_of(put(x))))
+        PointAnswer::At(kind::middle(kind::kind_of(put(x))))
     } else {
-        Point::Refused(Refusal::Parameter)
+        PointAnswer::Refused(Refusal::Parameter)
     }
 }
 
 // The point at which the later cut divides; a zero is +0.
-pub fn subdivision_point(x: Interval, integer: bool) -> Point
+pub fn subdivision_point(x: Interval, integer: bool) -> PointAnswer
     ensures { λ r. ⌜ r ≡ pointAnswer (legalInterval x integer) (cutPointOf (putInterval x) integer) ⌝ }
 {
     if is_legal(x, integer) {
-        Point::At(kind::cut_point(kind::kind_of(put(x)), integer))
+        PointAnswer::At(kind::cut_point(kind::kind_of(put(x)), integer))
     } else {
-        Point::Refused(Refusal::Parameter)
+        PointAnswer::Refused(Refusal::Parameter)
     }
 }
 
 // A number of the interval with few digits: its bits are those that the bounds share, and one more.
-pub fn simple_fraction(x: Interval) -> Point
+pub fn simple_fraction(x: Interval) -> PointAnswer
     ensures { λ r. ⌜ r ≡ pointAnswer (legalInterval x false) (simpleFraction (putInterval x .lower) (putInterval x .upper)) ⌝ }
 {
     if is_legal(x, false) {
-        Point::At(fraction::fraction(put(x)))
+        PointAnswer::At(fraction::fraction(put(x)))
     } else {
-        Point::Refused(Refusal::Parameter)
+        PointAnswer::Refused(Refusal::Parameter)
     }
 }
 
@@ -124,24 +124,24 @@ pub fn is_subdivisible(x: Interval, integer: bool) -> Whether
 }
 
 // The cut of a parameter's whole range, at setup: its ends apart; the Rust's `subdivide0`.
-pub fn first_cut(x: Interval, integer: bool) -> Pieces
+pub fn first_cut(x: Interval, integer: bool) -> PiecesAnswer
     ensures { λ r. ⌜ r ≡ piecesAt (legalInterval x integer) (firstCut (putInterval x) integer) ⌝ }
 {
     if is_legal(x, integer) {
         cut::first(put(x), integer)
     } else {
-        Pieces::Refused(Refusal::Parameter)
+        PiecesAnswer::Refused(Refusal::Parameter)
     }
 }
 
 // The cut of a block's range, in a step: at the cut point; the Rust's `subdivide1`.
-pub fn later_cut(x: Interval, integer: bool) -> Pieces
+pub fn later_cut(x: Interval, integer: bool) -> PiecesAnswer
     ensures { λ r. ⌜ r ≡ piecesAt (legalInterval x integer) (laterCut (putInterval x) integer) ⌝ }
 {
     if is_legal(x, integer) {
         cut::later(put(x), integer)
     } else {
-        Pieces::Refused(Refusal::Parameter)
+        PiecesAnswer::Refused(Refusal::Parameter)
     }
 }
 
@@ -156,20 +156,31 @@ pub fn bits_of(x: f64) -> u64
     }
 }
 
+// The bound with this bit pattern, its zero as it comes; for every NaN's pattern a NaN.
+pub fn float_of(bits: u64) -> f64
+    ensures { λ r. ⌜ r ≡ ofBits binary64 bits ⌝ }
+{
+    if is_nan_pattern(bits) {
+        0.0 / 0.0
+    } else {
+        f64::from_bits(bits)
+    }
+}
+
 // The interval whose bounds have these bit patterns, put. A NaN's pattern is refused before it is read.
-pub fn interval_from_bits(lower: u64, upper: u64, integer: bool) -> FromBits
+pub fn interval_from_bits(lower: u64, upper: u64, integer: bool) -> BitsAnswer
     ensures { λ r. ⌜ r ≡ fromBits lower upper integer ⌝ }
 {
     if is_nan_pattern(lower) | is_nan_pattern(upper) {
-        return FromBits::Refused(Refusal::Parameter);
+        return BitsAnswer::Refused(Refusal::Parameter);
     }
     let x = Interval {
         lower: f64::from_bits(lower),
         upper: f64::from_bits(upper),
     };
     if is_legal(x, integer) {
-        FromBits::Bounds(put(x))
+        BitsAnswer::Bounds(put(x))
     } else {
-        FromBits::Refused(Refusal::Parameter)
+        BitsAnswer::Refused(Refusal::Parameter)
     }
 }

@@ -8,6 +8,8 @@ use lib.Dec.{ltb}
 use lib.ListN.{length}
 use borrow.Author.Tests.{ltb-true, ltb-false, lt-ltb}
 use Rattle.base.proofs.Test.{cases, by-test, and-left, and-right, and-both}
+use Rattle.base.specs.Lists.{Every}
+use Rattle.base.proofs.ListLaws.{every-also, every-both, every-map}
 use Rattle.coordinate.specs.declared.Coordinate.{Coordinate}
 use Rattle.coordinate.specs.Axis.{ordinaryFloor, aboveFloor, inside}
 use Rattle.coordinate.specs.Lone.{legal, lowHalf, highHalf}
@@ -18,7 +20,6 @@ use Rattle.interval.specs.Bounds.{legalInterval, putInterval}
 use Rattle.interval.specs.Cuts.{laterCut}
 use Rattle.interval.proofs.Legality.{put-legal}
 use Rattle.interval.proofs.ProperPieces.{Proper, put-format, line-proper}
-use Rattle.interval.proofs.ProperPieces as I
 use Rattle.interval.proofs.LaterCut.{later-proper}
 use Rattle.queue.specs.declared.Block.{Block}
 use Rattle.queue.specs.declared.directions.Direction.{Direction}
@@ -31,7 +32,6 @@ use Rattle.queue.proofs.RoundTrip.{ParameterFine, CanQueue}
 use Rattle.decide.specs.declared.Chosen.{Chosen}
 use Rattle.decide.specs.Damage.{sound, directionOf}
 use Rattle.decide.specs.Children.{movedTo, quartersOf, beginsInside, keptInside, childrenXY, childrenCut, childrenAlong, childrenOf}
-use Rattle.plan.proofs.Each.{Each, each-also, each-both, each-map}
 use Rattle.decide.proofs.DamageLaws.{Placed, LegalParameters, Sound, is-sound}
 use Rattle.decide.proofs.ListingLaws.{low-begins, cut-along, cut-count, unsound}
 use Rattle.plan.proofs.PlaceLaws.{InPlace, QuarterOf, Lies, stays, quarters, each-kept, quarters-are, cut-in-place}
@@ -82,22 +82,22 @@ module _ (p : Chosen) (b : Block) (ok : sound p b ≡ true) where
       (half-inside (p .width) (c .x .rank) (c .x .index) (b .x .rank) (b .x .index) xr (q .x-index) (omega arith) (s .block .x .inside-side))
       (half-inside (p .height) (c .y .rank) (c .y .index) (b .y .rank) (b .y .index) yr (q .y-index) (omega arith) (s .block .y .inside-side))
 
-  xy-placed : aboveFloor ordinaryFloor (b .x .rank) ≡ true → Each (ChildPlace p b) (childrenXY p b)
+  xy-placed : aboveFloor ordinaryFloor (b .x .rank) ≡ true → Every (ChildPlace p b) (childrenXY p b)
   unfolding childrenXY
   xy-placed up =
       let k = ltb-true ordinaryFloor (b .x .rank) up in
       let q = quarters-are b (omega arith) (s .block .ranks) in
-      by-test (Each (ChildPlace p b)) (ltb 48 (b .x .rank)) (keptInside p (quartersOf b)) (quartersOf b)
-      (λ e. each-kept p (ChildPlace p b) (quartersOf b) (each-also (QuarterOf b) (λ c. beginsInside p c ≡ true → ChildPlace p b c) (placed-quarter up) (quartersOf b) q))
-      (λ e. each-also (QuarterOf b) (ChildPlace p b) (λ c z. placed-quarter up c z (quarter-begins (ltb-false 48 (b .x .rank) e) c z)) (quartersOf b) q)
+      by-test (Every (ChildPlace p b)) (ltb 48 (b .x .rank)) (keptInside p (quartersOf b)) (quartersOf b)
+      (λ e. each-kept p (ChildPlace p b) (quartersOf b) (every-also (QuarterOf b) (λ c. beginsInside p c ≡ true → ChildPlace p b c) (placed-quarter up) (quartersOf b) q))
+      (λ e. every-also (QuarterOf b) (ChildPlace p b) (λ c z. placed-quarter up c z (quarter-begins (ltb-false 48 (b .x .rank) e) c z)) (quartersOf b) q)
 
   placed-stays : (c : Block) → InPlace b c → ChildPlace p b c
   placed-stays c i = record { lies = stays i; ranks = rw (i .x, i .y) (s .block .ranks); x = rw (i .x) (s .block .x); y = rw (i .y) (s .block .y); dir = i .dir }
 
-  cut-placed : (d : Direction) → Each (ChildPlace p b) (childrenCut b d)
-  cut-placed d = each-also (InPlace b) (ChildPlace p b) placed-stays (childrenCut b d) (cut-in-place b d)
+  cut-placed : (d : Direction) → Every (ChildPlace p b) (childrenCut b d)
+  cut-placed d = every-also (InPlace b) (ChildPlace p b) placed-stays (childrenCut b d) (cut-in-place b d)
 
-  along-placed : (a : DirectionAt) → directionOf p b ≡ a → Each (ChildPlace p b) (childrenAlong p b a)
+  along-placed : (a : DirectionAt) → directionOf p b ≡ a → Every (ChildPlace p b) (childrenAlong p b a)
   along-placed (A.Along D.XY) e = xy-placed (cut-along p b D.XY ok e refl)
   along-placed (A.Along D.M) e = cut-placed D.M
   along-placed (A.Along D.N) e = cut-placed D.N
@@ -105,7 +105,7 @@ module _ (p : Chosen) (b : Block) (ok : sound p b ≡ true) where
   along-placed (A.Along D.T) e = cut-placed D.T
   along-placed A.Beyond e = (placed-stays b record { x = refl; y = refl; dir = refl }, tt)
 
-  pub children-placed : Each (ChildPlace p b) (childrenOf p b)
+  pub children-placed : Every (ChildPlace p b) (childrenOf p b)
   unfolding childrenOf
   children-placed = rw ok (along-placed (directionOf p b) refl)
 
@@ -212,35 +212,30 @@ fine-piece set b D.T q u f z D.Theta = f D.Theta
 fine-piece set b D.T q u f z D.T = piece-fine set D.T q u z
 
 -- every piece of a later cut is legal, put and of f64s
-pieces-each : (P : Interval → Type 0) (l : List Interval) → I.Each P l → Each P l
-pieces-each P [] h = tt
-pieces-each P (q ∷ l) h = (h .0, pieces-each P l (h .1))
-
-cut-proper : (set : ℕ) (b : Block) (d : Direction) → inUse set d ≡ true → Fine set b → Each (Proper (isInteger d)) (laterCut (putInterval (parameterOf b d)) (isInteger d))
+cut-proper : (set : ℕ) (b : Block) (d : Direction) → inUse set d ≡ true → Fine set b → Every (Proper (isInteger d)) (laterCut (putInterval (parameterOf b d)) (isInteger d))
 cut-proper set b d u f =
     let x = parameterOf b d in
     let z = f d .proper u in
-    pieces-each (Proper (isInteger d)) (laterCut (putInterval x) (isInteger d))
-    (later-proper (putInterval x) (isInteger d) (put-format x (z .format)) (put-legal x (isInteger d) ∙ z .legal))
+    later-proper (putInterval x) (isInteger d) (put-format x (z .format)) (put-legal x (isInteger d) ∙ z .legal)
 
 module _ (p : Chosen) (b : Block) (ok : sound p b ≡ true) (f : Fine (p .set) b) where
-  xy-fine : Each (Fine (p .set)) (childrenXY p b)
+  xy-fine : Every (Fine (p .set)) (childrenXY p b)
   unfolding childrenXY quartersOf
   xy-fine =
       let m : (x y : Coordinate) → Fine (p .set) (movedTo b x y) = (λ x y. fine-moved (p .set) b x y f) in
-      let q : Each (Fine (p .set)) (quartersOf b) =
+      let q : Every (Fine (p .set)) (quartersOf b) =
       (m (lowHalf (b .x)) (lowHalf (b .y)), (m (highHalf (b .x)) (lowHalf (b .y)), (m (lowHalf (b .x)) (highHalf (b .y)), (m (highHalf (b .x)) (highHalf (b .y)), tt)))) in
-      by-test (Each (Fine (p .set))) (ltb 48 (b .x .rank)) (keptInside p (quartersOf b)) (quartersOf b)
-      (λ e. each-kept p (Fine (p .set)) (quartersOf b) (each-also (Fine (p .set)) (λ c. beginsInside p c ≡ true → Fine (p .set) c) (λ c g t. g) (quartersOf b) q))
+      by-test (Every (Fine (p .set))) (ltb 48 (b .x .rank)) (keptInside p (quartersOf b)) (quartersOf b)
+      (λ e. each-kept p (Fine (p .set)) (quartersOf b) (every-also (Fine (p .set)) (λ c. beginsInside p c ≡ true → Fine (p .set) c) (λ c g t. g) (quartersOf b) q))
       (λ e. q)
 
-  cut-fine : (d : Direction) → directionOf p b ≡ A.Along d → Each (Fine (p .set)) (childrenCut b d)
+  cut-fine : (d : Direction) → directionOf p b ≡ A.Along d → Every (Fine (p .set)) (childrenCut b d)
   unfolding childrenCut
   cut-fine d e =
       let u = direction-in-use p b d e in
-      each-map (Proper (isInteger d)) (Fine (p .set)) (withParameter b d) (λ q z. fine-piece (p .set) b d q u f z) (laterCut (putInterval (parameterOf b d)) (isInteger d)) (cut-proper (p .set) b d u f)
+      every-map (Proper (isInteger d)) (Fine (p .set)) (withParameter b d) (λ q z. fine-piece (p .set) b d q u f z) (laterCut (putInterval (parameterOf b d)) (isInteger d)) (cut-proper (p .set) b d u f)
 
-  along-fine : (a : DirectionAt) → directionOf p b ≡ a → Each (Fine (p .set)) (childrenAlong p b a)
+  along-fine : (a : DirectionAt) → directionOf p b ≡ a → Every (Fine (p .set)) (childrenAlong p b a)
   along-fine (A.Along D.XY) e = xy-fine
   along-fine (A.Along D.M) e = cut-fine D.M e
   along-fine (A.Along D.N) e = cut-fine D.N e
@@ -248,7 +243,7 @@ module _ (p : Chosen) (b : Block) (ok : sound p b ≡ true) (f : Fine (p .set) b
   along-fine (A.Along D.T) e = cut-fine D.T e
   along-fine A.Beyond e = (f, tt)
 
-  pub children-fine : Each (Fine (p .set)) (childrenOf p b)
+  pub children-fine : Every (Fine (p .set)) (childrenOf p b)
   unfolding childrenOf
   children-fine = rw ok (along-fine (directionOf p b) refl)
 
@@ -256,13 +251,13 @@ module _ (p : Chosen) (b : Block) (ok : sound p b ≡ true) (f : Fine (p .set) b
 pub child-can-queue : (p : Chosen) (b c : Block) → ChildPlace p b c → Fine (p .set) c → CanQueue (p .set) c
 child-can-queue p b c h f = record { x = ranged ordinaryFloor (c .x .rank) (c .x .index) (h .x .in-ranges); y = ranged ordinaryFloor (c .y .rank) (c .y .index) (h .y .in-ranges); fine = f }
 
-pub children-can-queue : (p : Chosen) (b : Block) → sound p b ≡ true → CanQueue (p .set) b → Each (CanQueue (p .set)) (childrenOf p b)
+pub children-can-queue : (p : Chosen) (b : Block) → sound p b ≡ true → CanQueue (p .set) b → Every (CanQueue (p .set)) (childrenOf p b)
 children-can-queue p b ok q =
-    each-both (ChildPlace p b) (Fine (p .set)) (CanQueue (p .set)) (child-can-queue p b) (childrenOf p b) (children-placed p b ok) (children-fine p b ok (q .fine))
+    every-both (ChildPlace p b) (Fine (p .set)) (CanQueue (p .set)) (child-can-queue p b) (childrenOf p b) (children-placed p b ok) (children-fine p b ok (q .fine))
 
 -- an index stays under 2^47
-pub children-bounded : (p : Chosen) (b : Block) → sound p b ≡ true → Each (λ c. (c .x .index < 2 ^ 47) × (c .y .index < 2 ^ 47)) (childrenOf p b)
+pub children-bounded : (p : Chosen) (b : Block) → sound p b ≡ true → Every (λ c. (c .x .index < 2 ^ 47) × (c .y .index < 2 ^ 47)) (childrenOf p b)
 children-bounded p b ok =
-    each-also (ChildPlace p b) (λ c. (c .x .index < 2 ^ 47) × (c .y .index < 2 ^ 47))
+    every-also (ChildPlace p b) (λ c. (c .x .index < 2 ^ 47) × (c .y .index < 2 ^ 47))
     (λ c h. (ranged ordinaryFloor (c .x .rank) (c .x .index) (h .x .in-ranges) .bound, ranged ordinaryFloor (c .y .rank) (c .y .index) (h .y .in-ranges) .bound))
     (childrenOf p b) (children-placed p b ok)

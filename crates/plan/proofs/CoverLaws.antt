@@ -6,7 +6,7 @@ use Prim.Native.Nat.{ℕ, _*_, _≤_, _<_}
 use lib.ListN.{length}
 use borrow.Author.Tests.{le-leb}
 use Rattle.base.proofs.Test.{cond-yes, cond-no, both-ways}
-use Rattle.coordinate.specs.Axis.{covers1}
+use Rattle.coordinate.proofs.Covering.{covers1}
 use Rattle.image.specs.declared.Op.the-variants as Op
 use Rattle.image.specs.Cell.{Cell, meanings, doneTo, isMarked, ofKind}
 use Rattle.image.specs.Range.{rectangleOf, pictureReady}

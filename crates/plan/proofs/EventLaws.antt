@@ -10,6 +10,8 @@ use lib.ListN.{length, replicate}
 use borrow.Author.Tests.{le-leb}
 use Rattle.base.specs.Event.{Event, marks, queues, givesUp, queuedBy}
 use Rattle.base.proofs.Test.{by-test}
+use Rattle.base.specs.Lists.{Every}
+use Rattle.base.proofs.ListLaws.{every-also, every-both}
 use Rattle.image.specs.declared.Op.the-variants as Op
 use Rattle.image.specs.Cell.{Cell, doneTo}
 use Rattle.image.specs.Range.{holdsCell, rectangleOf}
@@ -26,10 +28,11 @@ use Rattle.decide.specs.declared.verdict.Outcome.{Outcome}
 use Rattle.decide.specs.declared.verdict.Outcome.the-variants as O
 use Rattle.decide.specs.Damage.{sound}
 use Rattle.decide.specs.Children.{childrenOf}
-use Rattle.decide.specs.Verdict.{outcomeOf, isMarking, isOpen}
+use Rattle.decide.specs.Verdict.{outcomeOf, isMarking, isIncomplete}
 use Rattle.decide.specs.Turn.{turnedTo, turned}
-use Rattle.plan.specs.Plan.{paintedUnder, allTrue, outcomes, evaluations, openCount, markEvents, turnEvent, turnEvents, eventsFor, cellsAfter, untouched, plannedTurn, plannedAll, planFrom, planOf, markPlanned, plannedMarks, turnPlanned, plannedTurns}
-use Rattle.plan.proofs.Each.{Each, each-also, each-both}
+use Rattle.plan.specs.Plan.{paintedUnder, allTrue, outcomes, evaluations, incompleteCount, markEvents, turnEvent, turnEvents, eventsFor}
+use Rattle.plan.specs.Plan.{cellsAfter, untouched, plannedTurn, plannedAll}
+use Rattle.plan.proofs.StepPlan.{planFrom, planOf, markPlanned, plannedMarks, turnPlanned, plannedTurns}
 use Rattle.decide.proofs.VerdictLaws.{cost-of-child}
 use Rattle.decide.proofs.ListingLaws.{children-few}
 use Rattle.plan.proofs.CoverLaws.{covers, Narrower, true-pixels, pixels-true}
@@ -65,7 +68,7 @@ module _ (turn : Block → Turned) where
   all-marks (c ∷ cs) (O.False ∷ os) = all-marks cs os
   all-marks (c ∷ cs) (O.Area ∷ os) = ap (λ (l : List (Event Block)). marks c ∷ l) (all-marks cs os)
   all-marks (c ∷ cs) (O.Point n ∷ os) = ap (λ (l : List (Event Block)). marks c ∷ l) (all-marks cs os)
-  all-marks (c ∷ cs) (O.Open n ∷ os) = go (turn c) ∙ all-marks cs os
+  all-marks (c ∷ cs) (O.Incomplete n ∷ os) = go (turn c) ∙ all-marks cs os
     where
       go : (t : Turned) → markPlanned (plannedTurn c t .block) (plannedTurn c t .fate) (plannedMarks (plannedAll turn cs os)) ≡ plannedMarks (plannedAll turn cs os)
       go (T.To d) = refl
@@ -83,7 +86,7 @@ module _ (turn : Block → Turned) where
   all-turns (c ∷ cs) (O.False ∷ os) = all-turns cs os
   all-turns (c ∷ cs) (O.Area ∷ os) = all-turns cs os
   all-turns (c ∷ cs) (O.Point n ∷ os) = all-turns cs os
-  all-turns (c ∷ cs) (O.Open n ∷ os) = go (turn c) ∙ ap (λ (l : List (Event Block)). turnEvent (turn c) ∷ l) (all-turns cs os)
+  all-turns (c ∷ cs) (O.Incomplete n ∷ os) = go (turn c) ∙ ap (λ (l : List (Event Block)). turnEvent (turn c) ∷ l) (all-turns cs os)
     where
       go : (t : Turned) → turnPlanned (plannedTurn c t .block) (plannedTurn c t .fate) (plannedTurns (plannedAll turn cs os)) ≡ turnEvent t ∷ plannedTurns (plannedAll turn cs os)
       go (T.To d) = refl
@@ -93,12 +96,12 @@ module _ (p : Chosen) (b : Block) (cs : List Block) (os : List Outcome) (vs : Li
   pub plan-marks : plannedMarks (planFrom p b cs os vs .at) ≡ markEvents cs os
   unfolding planFrom
   plan-marks =
-      marks-behind (plannedAll (turned p b (openCount os)) cs os) (4 - length (plannedAll (turned p b (openCount os)) cs os)) b ∙ all-marks (turned p b (openCount os)) cs os
+      marks-behind (plannedAll (turned p b (incompleteCount os)) cs os) (4 - length (plannedAll (turned p b (incompleteCount os)) cs os)) b ∙ all-marks (turned p b (incompleteCount os)) cs os
 
-  pub plan-turns : plannedTurns (planFrom p b cs os vs .at) ≡ turnEvents (turned p b (openCount os)) cs os
+  pub plan-turns : plannedTurns (planFrom p b cs os vs .at) ≡ turnEvents (turned p b (incompleteCount os)) cs os
   unfolding planFrom
   plan-turns =
-      turns-behind (plannedAll (turned p b (openCount os)) cs os) (4 - length (plannedAll (turned p b (openCount os)) cs os)) b ∙ all-turns (turned p b (openCount os)) cs os
+      turns-behind (plannedAll (turned p b (incompleteCount os)) cs os) (4 - length (plannedAll (turned p b (incompleteCount os)) cs os)) b ∙ all-turns (turned p b (incompleteCount os)) cs os
 
   -- what is carried out of a plan are the events of its children's outcomes
   pub plan-events : plannedMarks (planFrom p b cs os vs .at) ++ plannedTurns (planFrom p b cs os vs .at) ≡ eventsFor p b cs os
@@ -131,7 +134,7 @@ queued-few turn [] os = omega arith
 queued-few turn (c ∷ cs) [] = omega arith
 queued-few turn (c ∷ cs) (o ∷ os) =
     let ih = queued-few turn cs os in
-    by-test (λ l. length (queuedBy l) ≤ suc (length cs)) (isOpen o) (turnEvent (turn c) ∷ turnEvents turn cs os) (turnEvents turn cs os) (λ e. go (turn c) ih) (λ e. omega arith)
+    by-test (λ l. length (queuedBy l) ≤ suc (length cs)) (isIncomplete o) (turnEvent (turn c) ∷ turnEvents turn cs os) (turnEvents turn cs os) (λ e. go (turn c) ih) (λ e. omega arith)
   where
     go : (t : Turned) → length (queuedBy (turnEvents turn cs os)) ≤ length cs → length (queuedBy (turnEvent t ∷ turnEvents turn cs os)) ≤ suc (length cs)
     go (T.To d) h = omega arith
@@ -141,8 +144,8 @@ queued-few turn (c ∷ cs) (o ∷ os) =
 pub step-queues : (p : Chosen) (b : Block) (os : List Outcome) → length (queuedBy (eventsFor p b (childrenOf p b) os)) ≤ 4
 unfolding eventsFor
 step-queues p b os =
-    rw (marks-queue-none (childrenOf p b) os (turnEvents (turned p b (openCount os)) (childrenOf p b) os))
-    (omega (arith, queued-few (turned p b (openCount os)) (childrenOf p b) os, children-few p b))
+    rw (marks-queue-none (childrenOf p b) os (turnEvents (turned p b (incompleteCount os)) (childrenOf p b) os))
+    (omega (arith, queued-few (turned p b (incompleteCount os)) (childrenOf p b) os, children-few p b))
 
 -- WHAT IS MARKED AND QUEUED
 
@@ -153,13 +156,13 @@ EachEvent P (marks c ∷ es) = P c × EachEvent P es
 EachEvent P (queues c ∷ es) = P c × EachEvent P es
 EachEvent P (givesUp ∷ es) = EachEvent P es
 
-event-append : (P : Block → Type 0) (es fs : List (Event Block)) → EachEvent P es → EachEvent P fs → EachEvent P (es ++ fs)
+pub event-append : (P : Block → Type 0) (es fs : List (Event Block)) → EachEvent P es → EachEvent P fs → EachEvent P (es ++ fs)
 event-append P [] fs h k = k
 event-append P (marks c ∷ es) fs h k = (h .0, event-append P es fs (h .1) k)
 event-append P (queues c ∷ es) fs h k = (h .0, event-append P es fs (h .1) k)
 event-append P (givesUp ∷ es) fs h k = event-append P es fs h k
 
-event-marks : (P : Block → Type 0) (cs : List Block) (os : List Outcome) → Each P cs → EachEvent P (markEvents cs os)
+event-marks : (P : Block → Type 0) (cs : List Block) (os : List Outcome) → Every P cs → EachEvent P (markEvents cs os)
 unfolding markEvents
 event-marks P [] os h = tt
 event-marks P (c ∷ cs) [] h = tt
@@ -172,25 +175,25 @@ module _ (P Q : Block → Type 0) (turn : Block → Turned) (to : (c d : Block) 
   one-turn c (T.To d) e h es k = (to c d h e, k)
   one-turn c T.Nowhere e h es k = k
 
-  event-turns : (cs : List Block) (os : List Outcome) → Each P cs → EachEvent Q (turnEvents turn cs os)
+  event-turns : (cs : List Block) (os : List Outcome) → Every P cs → EachEvent Q (turnEvents turn cs os)
   unfolding turnEvents
   event-turns [] os h = tt
   event-turns (c ∷ cs) [] h = tt
   event-turns (c ∷ cs) (o ∷ os) h =
-      by-test (EachEvent Q) (isOpen o) (turnEvent (turn c) ∷ turnEvents turn cs os) (turnEvents turn cs os)
+      by-test (EachEvent Q) (isIncomplete o) (turnEvent (turn c) ∷ turnEvents turn cs os) (turnEvents turn cs os)
       (λ e. one-turn c (turn c) refl (h .0) (turnEvents turn cs os) (event-turns cs os (h .1))) (λ e. event-turns cs os (h .1))
 
-  one-queued : (c : Block) (t : Turned) → turn c ≡ t → P c → (es : List (Event Block)) → Each Q (queuedBy es) → Each Q (queuedBy (turnEvent t ∷ es))
+  one-queued : (c : Block) (t : Turned) → turn c ≡ t → P c → (es : List (Event Block)) → Every Q (queuedBy es) → Every Q (queuedBy (turnEvent t ∷ es))
   unfolding queuedBy
   one-queued c (T.To d) e h es k = (to c d h e, k)
   one-queued c T.Nowhere e h es k = k
 
-  pub each-queued : (cs : List Block) (os : List Outcome) → Each P cs → Each Q (queuedBy (turnEvents turn cs os))
+  pub each-queued : (cs : List Block) (os : List Outcome) → Every P cs → Every Q (queuedBy (turnEvents turn cs os))
   unfolding turnEvents queuedBy
   each-queued [] os h = tt
   each-queued (c ∷ cs) [] h = tt
   each-queued (c ∷ cs) (o ∷ os) h =
-      by-test (λ l. Each Q (queuedBy l)) (isOpen o) (turnEvent (turn c) ∷ turnEvents turn cs os) (turnEvents turn cs os)
+      by-test (λ l. Every Q (queuedBy l)) (isIncomplete o) (turnEvent (turn c) ∷ turnEvents turn cs os) (turnEvents turn cs os)
       (λ e. one-queued c (turn c) refl (h .0) (turnEvents turn cs os) (each-queued cs os (h .1))) (λ e. each-queued cs os (h .1))
 
 -- a turned block covers what it covered
@@ -202,27 +205,27 @@ turned-narrower p b n c d h e px py t = h px py (sym (turned-covers p c d (turns
 
 module _ (p : Chosen) (b : Block) (ok : sound p b ≡ true) (os : List Outcome) where
   abbrev turn : Block → Turned
-  turn = turned p b (openCount os)
+  turn = turned p b (incompleteCount os)
 
   -- what a step marks or queues covers only what its block covers
   pub events-narrower : EachEvent (Narrower b) (eventsFor p b (childrenOf p b) os)
   unfolding eventsFor
   events-narrower =
-      let n = each-also (λ c. Lies b c) (Narrower b) (lies-narrower b) (childrenOf p b) (children-lie p b ok) in
+      let n = every-also (λ c. Lies b c) (Narrower b) (lies-narrower b) (childrenOf p b) (children-lie p b ok) in
       event-append (Narrower b) (markEvents (childrenOf p b) os) (turnEvents turn (childrenOf p b) os)
       (event-marks (Narrower b) (childrenOf p b) os n)
-      (event-turns (Narrower b) (Narrower b) turn (turned-narrower p b (openCount os)) (childrenOf p b) os n)
+      (event-turns (Narrower b) (Narrower b) turn (turned-narrower p b (incompleteCount os)) (childrenOf p b) os n)
 
   -- each new block is undamaged in the same picture, and comes out of the queue as it goes in
-  pub queued-sound : Fine (p .set) b → Each (λ d. (sound p d ≡ true) × CanQueue (p .set) d) (queuedBy (eventsFor p b (childrenOf p b) os))
+  pub queued-sound : Fine (p .set) b → Every (λ d. (sound p d ≡ true) × CanQueue (p .set) d) (queuedBy (eventsFor p b (childrenOf p b) os))
   unfolding eventsFor
   queued-sound f =
       rw (marks-queue-none (childrenOf p b) os (turnEvents turn (childrenOf p b) os))
       (each-queued (λ c. ChildPlace p b c × Fine (p .set) c) (λ d. (sound p d ≡ true) × CanQueue (p .set) d) turn
-      (λ c d h e. (let t = turns p b (openCount os) c d e in
+      (λ c d h e. (let t = turns p b (incompleteCount os) c d e in
       (turned-sound p b c d ok (h .0) (h .1) t, turned-can-queue p c d (child-can-queue p b c (h .0) (h .1)) t)))
       (childrenOf p b) os
-      (each-both (ChildPlace p b) (Fine (p .set)) (λ c. ChildPlace p b c × Fine (p .set) c) (λ c h k. (h, k)) (childrenOf p b) (children-placed p b ok) (children-fine p b ok f)))
+      (every-both (ChildPlace p b) (Fine (p .set)) (λ c. ChildPlace p b c × Fine (p .set) c) (λ c h k. (h, k)) (childrenOf p b) (children-placed p b ok) (children-fine p b ok f)))
 
 -- the new blocks are children in their order, some left out, by whatever does not look at the direction
 module _ {A : Type 0} (f : Block → A) (turn : Block → Turned) (same : (c d : Block) → turn c ≡ T.To d → f d ≡ f c) where
@@ -237,15 +240,15 @@ module _ {A : Type 0} (f : Block → A) (turn : Block → Turned) (same : (c d :
   turns-sublist (c ∷ cs) [] = Sublistᴰ·nil-sublist (f c ∷ map f cs)
   turns-sublist (c ∷ cs) (o ∷ os) =
       let s = turns-sublist cs os in
-      by-test (λ l. Sublistᴰ (map f (queuedBy l)) (f c ∷ map f cs)) (isOpen o) (turnEvent (turn c) ∷ turnEvents turn cs os) (turnEvents turn cs os)
+      by-test (λ l. Sublistᴰ (map f (queuedBy l)) (f c ∷ map f cs)) (isIncomplete o) (turnEvent (turn c) ∷ turnEvents turn cs os) (turnEvents turn cs os)
       (λ e. one-kept c (turn c) refl (turnEvents turn cs os) (map f cs) s) (λ e. Sublistᴰ·cons s)
 
 pub queued-sublist : {A : Type 0} (f : Block → A) (p : Chosen) (b : Block) → ((c : Block) (d : ℕ) → f (turnedTo c d) ≡ f c) → (cs : List Block) (os : List Outcome)
     → Sublistᴰ (map f (queuedBy (eventsFor p b cs os))) (map f cs)
 unfolding eventsFor
 queued-sublist f p b h cs os =
-    rw (marks-queue-none cs os (turnEvents (turned p b (openCount os)) cs os))
-    (turns-sublist f (turned p b (openCount os)) (λ c d e. (let t = turns p b (openCount os) c d e in ap f (t .same) ∙ h c (d .dir))) cs os)
+    rw (marks-queue-none cs os (turnEvents (turned p b (incompleteCount os)) cs os))
+    (turns-sublist f (turned p b (incompleteCount os)) (λ c d e. (let t = turns p b (incompleteCount os) c d e in ap f (t .same) ∙ h c (d .dir))) cs os)
 
 -- THE CELLS
 
@@ -296,7 +299,7 @@ give-up-order p b c number new es l n =
 -- SKIPPED
 
 -- where all cells of a block are True every child is skipped, so nothing is done
-true-skips : (p : Chosen) (l : List Cell) (cs : List Block) (vs : List ℕ) → Each (λ c. allTrue p c l ≡ true) cs → (turn : Block → Turned)
+true-skips : (p : Chosen) (l : List Cell) (cs : List Block) (vs : List ℕ) → Every (λ c. allTrue p c l ≡ true) cs → (turn : Block → Turned)
     → (markEvents cs (outcomes p l cs vs) ≡ []) × (turnEvents turn cs (outcomes p l cs vs) ≡ [])
 unfolding outcomes markEvents turnEvents
 true-skips p l [] vs h turn = (refl, refl)
@@ -308,7 +311,7 @@ pub all-true-nothing : (p : Chosen) (b : Block) (l : List Cell) (vs : List ℕ) 
 unfolding eventsFor
 all-true-nothing p b l vs ok h t =
     let os = outcomes p l (childrenOf p b) vs in
-    let each = each-also (λ c. Lies b c) (λ c. allTrue p c l ≡ true)
+    let each = every-also (λ c. Lies b c) (λ c. allTrue p c l ≡ true)
     (λ c i. pixels-true p c l h (λ px py f g e. true-pixels p b l h t px py f g (lies-narrower b c i px py e))) (childrenOf p b) (children-lie p b ok) in
-    let z = true-skips p l (childrenOf p b) vs each (turned p b (openCount os)) in
+    let z = true-skips p l (childrenOf p b) vs each (turned p b (incompleteCount os)) in
     ap₂ _++_ (z .0) (z .1)

@@ -8,6 +8,8 @@ use native.Mathlib.Nat.{add-zero}
 use lib.ListN.{length}
 use Rattle.base.specs.Event.{Event, marks, queues, givesUp, queuedBy}
 use Rattle.base.proofs.Test.{cases}
+use Rattle.base.specs.Lists.{Every}
+use Rattle.base.proofs.ListLaws.{every-also}
 use Rattle.image.specs.declared.Op.the-variants as Op
 use Rattle.image.specs.declared.PixelRange.{PixelRange}
 use Rattle.image.specs.Cell.{Cell}
@@ -19,10 +21,9 @@ use Rattle.decide.specs.declared.turn.Turned.the-variants as T
 use Rattle.decide.specs.declared.verdict.Outcome.{Outcome}
 use Rattle.decide.specs.Damage.{sound}
 use Rattle.decide.specs.Children.{childrenOf}
-use Rattle.decide.specs.Verdict.{isOpen}
+use Rattle.decide.specs.Verdict.{isIncomplete}
 use Rattle.decide.specs.Turn.{turned}
-use Rattle.plan.specs.Plan.{paintedUnder, openCount, markEvents, turnEvent, turnEvents, eventsFor, cellsAfter}
-use Rattle.plan.proofs.Each.{Each, each-also}
+use Rattle.plan.specs.Plan.{paintedUnder, incompleteCount, markEvents, turnEvent, turnEvents, eventsFor, cellsAfter}
 use Rattle.plan.proofs.CoverLaws.{Narrower}
 use Rattle.plan.proofs.PlaceLaws.{Lies, lies-narrower, children-lie}
 use Rattle.plan.proofs.PlanLaws.{marks-queue-none}
@@ -40,7 +41,7 @@ unfoldable pub cellsOwn : Chosen → ℕ → ℕ → (Block → Turned) → List
 cellsOwn p number new turn [] os l = l
 cellsOwn p number new turn (c ∷ cs) [] l = l
 cellsOwn p number new turn (c ∷ cs) (o ∷ os) l =
-    cond (isOpen o) (ownTurn p number new c (turn c) (λ n m. cellsOwn p number n turn cs os m) l) (cellsOwn p number new turn cs os l)
+    cond (isIncomplete o) (ownTurn p number new c (turn c) (λ n m. cellsOwn p number n turn cs os m) l) (cellsOwn p number new turn cs os l)
 
 module _ (p : Chosen) (b : Block) (n : ℕ) (ok : sound p b ≡ true) (number : ℕ) where
   -- one child, where the children after it leave the same cells by both readings
@@ -53,27 +54,27 @@ module _ (p : Chosen) (b : Block) (n : ℕ) (ok : sound p b ≡ true) (number : 
   own-turn new c cs os l h f T.Nowhere e =
       ap (λ (r : PixelRange). cellsOwn p number new (turned p b n) cs os (painted (p .width) r Op.GiveUp l)) (h e) ∙ f new (paintedUnder p b Op.GiveUp l)
 
-  own-turns : (new : ℕ) (cs : List Block) (os : List Outcome) (l : List Cell) → Each (SameRectangle p b n ok) cs
+  own-turns : (new : ℕ) (cs : List Block) (os : List Outcome) (l : List Cell) → Every (SameRectangle p b n ok) cs
       → cellsOwn p number new (turned p b n) cs os l ≡ cellsAfter p b number new (turnEvents (turned p b n) cs os) l
   unfolding cellsOwn turnEvents cellsAfter
   own-turns new [] os l h = refl
   own-turns new (c ∷ cs) [] l h = refl
   own-turns new (c ∷ cs) (o ∷ os) l h =
-      cases (isOpen o) (λ e. rw e (own-turn new c cs os l (h .0) (λ k m. own-turns k cs os m (h .1)) (turned p b n c) refl)) (λ e. rw e (own-turns new cs os l (h .1)))
+      cases (isIncomplete o) (λ e. rw e (own-turn new c cs os l (h .0) (λ k m. own-turns k cs os m (h .1)) (turned p b n c) refl)) (λ e. rw e (own-turns new cs os l (h .1)))
 
 -- the cells that a step on a sound block leaves, whatever its children's outcomes, are those of the other reading
 pub give-up-own : (p : Chosen) (b : Block) (number new : ℕ) (os : List Outcome) (l : List Cell) → sound p b ≡ true
     → (let cs = childrenOf p b in
-    cellsAfter p b number new (eventsFor p b cs os) l ≡ cellsOwn p number new (turned p b (openCount os)) cs os (cellsAfter p b number new (markEvents cs os) l))
+    cellsAfter p b number new (eventsFor p b cs os) l ≡ cellsOwn p number new (turned p b (incompleteCount os)) cs os (cellsAfter p b number new (markEvents cs os) l))
 unfolding eventsFor queuedBy
 give-up-own p b number new os l ok =
     let cs = childrenOf p b in
-    let turn = turned p b (openCount os) in
+    let turn = turned p b (incompleteCount os) in
     let q : queuedBy (markEvents cs os) ≡ [] = ap queuedBy (sym (append-nil (markEvents cs os))) ∙ marks-queue-none cs os [] in
     let z : new + length (queuedBy (markEvents cs os)) ≡ new = ap (λ (m : List Block). new + length m) q ∙ add-zero new in
     cells-append p b number new (markEvents cs os) (turnEvents turn cs os) l
     ∙ ap (λ (k : ℕ). cellsAfter p b number k (turnEvents turn cs os) (cellsAfter p b number new (markEvents cs os) l)) z
-    ∙ sym (own-turns p b (openCount os) ok number new cs os (cellsAfter p b number new (markEvents cs os) l) (nowhere-same p b (openCount os) ok))
+    ∙ sym (own-turns p b (incompleteCount os) ok number new cs os (cellsAfter p b number new (markEvents cs os) l) (nowhere-same p b (incompleteCount os) ok))
 
 -- THE ORDER AMONG SIBLINGS
 
@@ -83,7 +84,7 @@ queuing [] es = es
 queuing (c ∷ cs) es = queues c ∷ queuing cs es
 
 -- giving up before all siblings that are queued, or after them
-pub give-up-last : (p : Chosen) (b : Block) (number new : ℕ) (cs : List Block) (es : List (Event Block)) (l : List Cell) → Each (Narrower b) cs
+pub give-up-last : (p : Chosen) (b : Block) (number new : ℕ) (cs : List Block) (es : List (Event Block)) (l : List Cell) → Every (Narrower b) cs
     → cellsAfter p b number new (givesUp ∷ queuing cs es) l ≡ cellsAfter p b number new (queuing cs (givesUp ∷ es)) l
 unfolding cellsAfter
 give-up-last p b number new [] es l h = refl
@@ -103,7 +104,7 @@ queuedFirst es = queuing (queuedBy es) (givings es)
 
 module _ (p : Chosen) (b : Block) (number : ℕ) (turn : Block → Turned) (stays : (c d : Block) → Narrower b c → turn c ≡ T.To d → Narrower b d) where
   -- one child, where the children after it leave the same cells in both orders
-  last-turn : (new : ℕ) (cs : List Block) (os : List Outcome) (l : List Cell) → Each (Narrower b) (queuedBy (turnEvents turn cs os))
+  last-turn : (new : ℕ) (cs : List Block) (os : List Outcome) (l : List Cell) → Every (Narrower b) (queuedBy (turnEvents turn cs os))
       → ((k : ℕ) (m : List Cell) → cellsAfter p b number k (turnEvents turn cs os) m ≡ cellsAfter p b number k (queuedFirst (turnEvents turn cs os)) m)
       → (t : Turned) → cellsAfter p b number new (turnEvent t ∷ turnEvents turn cs os) l ≡ cellsAfter p b number new (queuedFirst (turnEvent t ∷ turnEvents turn cs os)) l
   unfolding cellsAfter queuedBy
@@ -111,19 +112,19 @@ module _ (p : Chosen) (b : Block) (number : ℕ) (turn : Block → Turned) (stay
   last-turn new cs os l h f T.Nowhere =
       f new (paintedUnder p b Op.GiveUp l) ∙ give-up-last p b number new (queuedBy (turnEvents turn cs os)) (givings (turnEvents turn cs os)) l h
 
-  turns-last : (new : ℕ) (cs : List Block) (os : List Outcome) (l : List Cell) → Each (Narrower b) cs
+  turns-last : (new : ℕ) (cs : List Block) (os : List Outcome) (l : List Cell) → Every (Narrower b) cs
       → cellsAfter p b number new (turnEvents turn cs os) l ≡ cellsAfter p b number new (queuedFirst (turnEvents turn cs os)) l
   unfolding turnEvents queuedBy
   turns-last new [] os l h = refl
   turns-last new (c ∷ cs) [] l h = refl
   turns-last new (c ∷ cs) (o ∷ os) l h =
-      cases (isOpen o)
+      cases (isIncomplete o)
       (λ e. rw e (last-turn new cs os l (each-queued (Narrower b) (Narrower b) turn stays cs os (h .1)) (λ k m. turns-last k cs os m (h .1)) (turn c)))
       (λ e. rw e (turns-last new cs os l (h .1)))
 
 -- a step on a sound block may name the cells of all that it queues before it gives any up
 pub give-ups-last : (p : Chosen) (b : Block) (number new : ℕ) (os : List Outcome) (l : List Cell) → sound p b ≡ true
-    → (let es = turnEvents (turned p b (openCount os)) (childrenOf p b) os in cellsAfter p b number new es l ≡ cellsAfter p b number new (queuedFirst es) l)
+    → (let es = turnEvents (turned p b (incompleteCount os)) (childrenOf p b) os in cellsAfter p b number new es l ≡ cellsAfter p b number new (queuedFirst es) l)
 give-ups-last p b number new os l ok =
-    turns-last p b number (turned p b (openCount os)) (turned-narrower p b (openCount os)) new (childrenOf p b) os l
-    (each-also (λ c. Lies b c) (Narrower b) (lies-narrower b) (childrenOf p b) (children-lie p b ok))
+    turns-last p b number (turned p b (incompleteCount os)) (turned-narrower p b (incompleteCount os)) new (childrenOf p b) os l
+    (every-also (λ c. Lies b c) (Narrower b) (lies-narrower b) (childrenOf p b) (children-lie p b ok))

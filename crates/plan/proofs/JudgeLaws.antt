@@ -1,4 +1,4 @@
--- Laws of judging the children and of turning them: the turns of the loops. Assumes nothing.
+-- Laws of judging the children and of turning them: the passes of the loops. Assumes nothing.
 use mathlib.Core.Path.{_≡_, refl, sym, ap, _∙_}
 use mathlib.Core.Bool.{Bool, true, _&&_, _||_}
 use mathlib.Core.List.{List, [], _∷_}
@@ -29,10 +29,11 @@ use Rattle.decide.specs.declared.turn.Turned.{Turned}
 use Rattle.decide.specs.declared.turn.Turned.the-variants as T
 use Rattle.decide.specs.declared.verdict.Outcome.{Outcome}
 use Rattle.decide.specs.Damage.{directionOf}
-use Rattle.decide.specs.Verdict.{legalVerdict, outcomeOf, costOf, isMarking, isOpen}
+use Rattle.decide.specs.Verdict.{legalVerdict, outcomeOf, costOf, isMarking, isIncomplete}
 use Rattle.decide.specs.Turn.{startOf, turnedFound}
 use Rattle.plan.specs.Plan.{plannedTurn}
-use Rattle.plan.specs.AtOnce.{alikeAlong, alike, isSeen, trueAsGiven, outcomeAtOnce, fateOf, openOnes, unjudged, blocksIn, judgedBy, turnedPlan, queuedOnes, unturned, turnedAt, turnedFrom}
+use Rattle.plan.specs.AtOnce.{alikeAlong, alike, isSeen, trueAsGiven, outcomeAtOnce, blocksIn}
+use Rattle.plan.specs.PlanComputed.{fateOf, incompleteOnes, unjudged, judgedBy, turnedPlan, queuedOnes, unturned, turnedAt, turnedFrom}
 use Rattle.decide.proofs.VerdictLaws.{cost-of-child}
 
 -- BY THE TESTS THAT THE CODE MAKES
@@ -49,7 +50,7 @@ unfolding trueAsGiven
 seen-as p c cells r s v e f g = ap isSeen (sym g ∙ f) ∙ rw e
 
 pub noted-as : (j : Judged) (i rank v : ℕ) (o : Outcome) (f : Fate) (n e : ℕ) (m l : Bool)
-    → f ≡ fateOf o → n ≡ openOnes o → e ≡ costOf o → m ≡ isMarking o → l ≡ legalVerdict rank v
+    → f ≡ fateOf o → n ≡ incompleteOnes o → e ≡ costOf o → m ≡ isMarking o → l ≡ legalVerdict rank v
     → record {
       at = set (j .at) i (record { fate = f });
       incomplete = j .incomplete + n;
@@ -77,8 +78,8 @@ pub turned-lost : (p : Chosen) (start : ℕ) (c : Block) (f : Fate) (t : Turned)
     → record { block = c; fate = F.GiveUp } ≡ turnedPlan p start c f
 turned-lost p start c f t e g h = rw e (ap (plannedTurn c) (sym h ∙ g))
 
-pub open-one : (o : Outcome) → openOnes o ≤ 1
-open-one o = by-test (λ n. n ≤ 1) (isOpen o) 1 0 (λ e. omega arith) (λ e. omega arith)
+pub incomplete-one : (o : Outcome) → incompleteOnes o ≤ 1
+incomplete-one o = by-test (λ n. n ≤ 1) (isIncomplete o) 1 0 (λ e. omega arith) (λ e. omega arith)
 
 pub queued-one : (f : Fate) → queuedOnes f ≤ 1
 queued-one F.Nothing = omega arith
@@ -136,7 +137,7 @@ pub judged-few : (p : Chosen) (same : Bool) (cells : List ℕ) (j j′ : Judged)
 unfolding judgedBy
 judged-few p same cells j j′ i c v e h k =
     let o = outcomeAtOnce p same cells (j .marked) c v in
-    rw e (omega (arith, cost-of-child (c .x .rank) v (trueAsGiven p c cells || (same && j .marked))), omega (arith, open-one o))
+    rw e (omega (arith, cost-of-child (c .x .rank) v (trueAsGiven p c cells || (same && j .marked))), omega (arith, incomplete-one o))
 
 -- THE LOOP OVER THE DIRECTIONS
 

@@ -1,9 +1,9 @@
 -- Laws that the functions' proofs and the crates above cite.
-pub mod Each
 pub mod CoverLaws
 pub mod PlaceLaws
 pub mod JudgeLaws
-pub mod InTurn
+pub mod InOrder
+pub mod StepPlan
 pub mod PlanLaws
 pub mod ChildLaws
 pub mod QueuedLaws

@@ -8,8 +8,11 @@ use native.Mathlib.Omega.{arith}
 use lib.Dec.{leb, ltb}
 use borrow.Author.Tests.{ltb-true, ltb-false, le-leb, lt-leb}
 use Rattle.base.proofs.Test.{cases, by-test, and-left, and-right, and-both}
+use Rattle.base.specs.Lists.{Every}
+use Rattle.base.proofs.ListLaws.{every-all, every-also, every-map, Pairs, every-pairs}
 use Rattle.coordinate.specs.declared.Coordinate.{Coordinate}
-use Rattle.coordinate.specs.Axis.{ordinaryFloor, aboveFloor, covers1}
+use Rattle.coordinate.specs.Axis.{ordinaryFloor, aboveFloor}
+use Rattle.coordinate.proofs.Covering.{covers1}
 use Rattle.coordinate.specs.Lone.{lowHalf, highHalf}
 use Rattle.coordinate.proofs.CoverLaws.{half-same, half-covers, apart}
 use Rattle.interval.specs.declared.Interval.{Interval}
@@ -25,7 +28,6 @@ use Rattle.decide.specs.declared.Chosen.{Chosen}
 use Rattle.decide.specs.Damage.{sound, directionOf}
 use Rattle.decide.specs.Children.{movedTo, quartersOf, beginsInside, keptInside, childrenXY, childrenCut, childrenAlong, childrenOf}
 use Rattle.plan.specs.AtOnce.{alikeAlong, alike}
-use Rattle.plan.proofs.Each.{Each, each-all, each-also, each-map, Pairs, each-pairs}
 use Rattle.decide.proofs.DamageLaws.{is-sound}
 use Rattle.decide.proofs.ListingLaws.{cut-along}
 use Rattle.plan.proofs.CoverLaws.{covers, Narrower, Apart}
@@ -91,25 +93,25 @@ apart-y c d h r n px py e =
 
 -- THE LISTS
 
-pub each-kept : (p : Chosen) (P : Block → Type 0) (l : List Block) → Each (λ c. beginsInside p c ≡ true → P c) l → Each P (keptInside p l)
+pub each-kept : (p : Chosen) (P : Block → Type 0) (l : List Block) → Every (λ c. beginsInside p c ≡ true → P c) l → Every P (keptInside p l)
 unfolding keptInside
 each-kept p P [] h = tt
 each-kept p P (c ∷ l) h =
-    by-test (Each P) (beginsInside p c) (c ∷ keptInside p l) (keptInside p l) (λ e. (h .0 e, each-kept p P l (h .1))) (λ e. each-kept p P l (h .1))
+    by-test (Every P) (beginsInside p c) (c ∷ keptInside p l) (keptInside p l) (λ e. (h .0 e, each-kept p P l (h .1))) (λ e. each-kept p P l (h .1))
 
 pairs-kept : (p : Chosen) (R : Block → Block → Type 0) (l : List Block) → Pairs R l → Pairs R (keptInside p l)
 unfolding keptInside
 pairs-kept p R [] h = tt
 pairs-kept p R (c ∷ l) h =
     by-test (Pairs R) (beginsInside p c) (c ∷ keptInside p l) (keptInside p l)
-    (λ e. (each-kept p (R c) l (each-also (R c) (λ d. beginsInside p d ≡ true → R c d) (λ d r f. r) l (h .0)), pairs-kept p R l (h .1)))
+    (λ e. (each-kept p (R c) l (every-also (R c) (λ d. beginsInside p d ≡ true → R c d) (λ d r f. r) l (h .0)), pairs-kept p R l (h .1)))
     (λ e. pairs-kept p R l (h .1))
 
 module _ (b : Block) (up : 0 < b .x .rank) (same : b .x .rank ≡ b .y .rank) where
   quarter : (x y : Coordinate) → x .rank ≡ b .x .rank - 1 → y .rank ≡ b .y .rank - 1 → x .index / 2 ≡ b .x .index → y .index / 2 ≡ b .y .index → QuarterOf b (movedTo b x y)
   quarter x y e f g h = record { x-rank = omega arith; y-rank = omega arith; x-index = g; y-index = h; dir = refl }
 
-  pub quarters-are : Each (QuarterOf b) (quartersOf b)
+  pub quarters-are : Every (QuarterOf b) (quartersOf b)
   unfolding quartersOf
   quarters-are =
       let l : 2 * (b .x .index) / 2 ≡ b .x .index = omega arith in
@@ -161,18 +163,18 @@ in-place-cut b D.N q = record { x = refl; y = refl; dir = refl }
 in-place-cut b D.Theta q = record { x = refl; y = refl; dir = refl }
 in-place-cut b D.T q = record { x = refl; y = refl; dir = refl }
 
-pub cut-in-place : (b : Block) (d : Direction) → Each (InPlace b) (childrenCut b d)
+pub cut-in-place : (b : Block) (d : Direction) → Every (InPlace b) (childrenCut b d)
 unfolding childrenCut
 cut-in-place b d =
     let l = laterCut (putInterval (parameterOf b d)) (isInteger d) in
-    each-map (λ (q : Interval). Unit {0}) (InPlace b) (withParameter b d) (λ q u. in-place-cut b d q) l (each-all (λ (q : Interval). Unit {0}) (λ q. tt) l)
+    every-map (λ (q : Interval). Unit {0}) (InPlace b) (withParameter b d) (λ q u. in-place-cut b d q) l (every-all (λ (q : Interval). Unit {0}) (λ q. tt) l)
 
 -- children in their parent's place, and its quarters from level 0 down, cover what it covers
 abbrev pub CoversAs : Block → Block → Type 0
 CoversAs b c = (px py : ℕ) → covers c px py ≡ covers b px py
 
-as-pairs : (b : Block) (l : List Block) → Each (CoversAs b) l → Pairs Narrower l
-as-pairs b l h = each-pairs (CoversAs b) Narrower (λ c d s t px py e. s px py ∙ sym (t px py) ∙ e) l h
+as-pairs : (b : Block) (l : List Block) → Every (CoversAs b) l → Pairs Narrower l
+as-pairs b l h = every-pairs (CoversAs b) Narrower (λ c d s t px py e. s px py ∙ sym (t px py) ∙ e) l h
 
 -- two children, the earlier first: the later covers only what the earlier covers, or nothing of it
 abbrev pub Beside : Bool → Block → Block → Type 0
@@ -180,19 +182,19 @@ Beside true c d = Narrower c d
 Beside false c d = Apart c d
 
 module _ (p : Chosen) (b : Block) (ok : sound p b ≡ true) where
-  xy-lies : aboveFloor ordinaryFloor (b .x .rank) ≡ true → Each (Lies b) (childrenXY p b)
+  xy-lies : aboveFloor ordinaryFloor (b .x .rank) ≡ true → Every (Lies b) (childrenXY p b)
   unfolding childrenXY
   xy-lies up =
       let h = ltb-true ordinaryFloor (b .x .rank) up in
-      let q = each-also (QuarterOf b) (Lies b) (λ c. quarters) (quartersOf b) (quarters-are b (omega arith) (is-sound p b ok .block .ranks)) in
-      by-test (Each (Lies b)) (ltb 48 (b .x .rank)) (keptInside p (quartersOf b)) (quartersOf b)
-      (λ e. each-kept p (Lies b) (quartersOf b) (each-also (Lies b) (λ c. beginsInside p c ≡ true → Lies b c) (λ c l f. l) (quartersOf b) q))
+      let q = every-also (QuarterOf b) (Lies b) (λ c. quarters) (quartersOf b) (quarters-are b (omega arith) (is-sound p b ok .block .ranks)) in
+      by-test (Every (Lies b)) (ltb 48 (b .x .rank)) (keptInside p (quartersOf b)) (quartersOf b)
+      (λ e. each-kept p (Lies b) (quartersOf b) (every-also (Lies b) (λ c. beginsInside p c ≡ true → Lies b c) (λ c l f. l) (quartersOf b) q))
       (λ e. q)
 
-  cut-lies : (d : Direction) → Each (Lies b) (childrenCut b d)
-  cut-lies d = each-also (InPlace b) (Lies b) (λ c. stays) (childrenCut b d) (cut-in-place b d)
+  cut-lies : (d : Direction) → Every (Lies b) (childrenCut b d)
+  cut-lies d = every-also (InPlace b) (Lies b) (λ c. stays) (childrenCut b d) (cut-in-place b d)
 
-  along-lies : (a : DirectionAt) → directionOf p b ≡ a → Each (Lies b) (childrenAlong p b a)
+  along-lies : (a : DirectionAt) → directionOf p b ≡ a → Every (Lies b) (childrenAlong p b a)
   along-lies (A.Along D.XY) e = xy-lies (cut-along p b D.XY ok e refl)
   along-lies (A.Along D.M) e = cut-lies D.M
   along-lies (A.Along D.N) e = cut-lies D.N
@@ -201,7 +203,7 @@ module _ (p : Chosen) (b : Block) (ok : sound p b ≡ true) where
   along-lies A.Beyond e = (stays record { x = refl; y = refl; dir = refl }, tt)
 
   -- each child has its parent's place, or is a quarter of it
-  pub children-lie : Each (Lies b) (childrenOf p b)
+  pub children-lie : Every (Lies b) (childrenOf p b)
   unfolding childrenOf
   children-lie = rw ok (along-lies (directionOf p b) refl)
 
@@ -215,10 +217,10 @@ module _ (p : Chosen) (b : Block) (ok : sound p b ≡ true) where
       (λ e. (let k = ltb-false 48 (b .x .rank) e in
       rw (e, le-leb (b .x .rank) 48 k)
       (as-pairs b (quartersOf b)
-      (each-also (QuarterOf b) (CoversAs b) (λ c q. quarter-same b c q (omega (arith, q .x-rank)) (omega (arith, q .y-rank))) (quartersOf b) (quarters-are b (omega arith) r)))))
+      (every-also (QuarterOf b) (CoversAs b) (λ c q. quarter-same b c q (omega (arith, q .x-rank)) (omega (arith, q .y-rank))) (quartersOf b) (quarters-are b (omega arith) r)))))
 
   cut-beside : (d : Direction) → Pairs Narrower (childrenCut b d)
-  cut-beside d = as-pairs b (childrenCut b d) (each-also (InPlace b) (CoversAs b) (covers-in-place b) (childrenCut b d) (cut-in-place b d))
+  cut-beside d = as-pairs b (childrenCut b d) (every-also (InPlace b) (CoversAs b) (covers-in-place b) (childrenCut b d) (cut-in-place b d))
 
   along-beside : (a : DirectionAt) → directionOf p b ≡ a → Pairs (Beside (alikeAlong (b .x .rank) a)) (childrenAlong p b a)
   along-beside (A.Along D.XY) e = xy-beside (cut-along p b D.XY ok e refl)

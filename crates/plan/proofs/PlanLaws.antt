@@ -28,9 +28,12 @@ use Rattle.decide.specs.Damage.{sound}
 use Rattle.decide.specs.Children.{childrenOf, listed}
 use Rattle.decide.specs.Verdict.{legalVerdict, allLegal, costOf, isMarking}
 use Rattle.decide.specs.Turn.{startOf, turned}
-use Rattle.plan.specs.Plan.{evaluations, openCount, markEvents, turnEvent, turnEvents, eventsFor, untouched, plannedTurn, plannedBy, plannedAll, plannedList, planFrom, enoughCells, plannedFor, planOf, outcomes}
-use Rattle.plan.specs.AtOnce.{alike, outcomeAtOnce, atOnce, blocksIn, planBy, planListed, fateOf, openOnes, unjudged, judgedBy, turnedPlan, queuedOnes, unturned, turnedAt, turnedFrom}
-use Rattle.plan.proofs.InTurn.{at-once}
+use Rattle.plan.specs.Plan.{outcomes, evaluations, incompleteCount, markEvents, turnEvent, turnEvents, eventsFor}
+use Rattle.plan.specs.Plan.{untouched, plannedTurn, plannedBy, plannedAll}
+use Rattle.plan.specs.AtOnce.{alike, outcomeAtOnce, atOnce, blocksIn, planBy, planListed}
+use Rattle.plan.specs.PlanComputed.{fateOf, incompleteOnes, unjudged, judgedBy, turnedPlan, queuedOnes, unturned, turnedAt, turnedFrom}
+use Rattle.plan.proofs.StepPlan.{plannedList, planFrom, enoughCells, plannedFor, planOf}
+use Rattle.plan.proofs.InOrder.{at-once}
 use Rattle.plan.proofs.JudgeLaws.{judgedFrom}
 use Rattle.decide.proofs.ListingLaws.{unsound}
 
@@ -43,13 +46,13 @@ noted (o ∷ os) = record { fate = fateOf o } ∷ noted os
 
 pub record Closed (r j : Judged) (i : ℕ) (cs : List Block) (os : List Outcome) (vs : List ℕ) : Type 0 where
   pub at : r .at ≡ sets (j .at) i (noted os)
-  pub incomplete : r .incomplete ≡ j .incomplete + openCount os
+  pub incomplete : r .incomplete ≡ j .incomplete + incompleteCount os
   pub evaluated : r .evaluations ≡ j .evaluations + evaluations os
   pub legal : r .legal ≡ (j .legal && allLegal cs vs)
 
 module _ (p : Chosen) (same : Bool) (cells : List ℕ) where
   pub judged-closed : (j : Judged) (i : ℕ) (cs : List Block) (vs : List ℕ) → Closed (judgedFrom p same cells j i cs vs) j i cs (atOnce p same cells (j .marked) cs vs) vs
-  unfolding judgedFrom judgedBy atOnce noted openCount evaluations allLegal
+  unfolding judgedFrom judgedBy atOnce noted incompleteCount evaluations allLegal
   judged-closed j i [] vs = record { at = refl; incomplete = sym (add-zero (j .incomplete)); evaluated = sym (add-zero (j .evaluations)); legal = sym (and-true (j .legal)) }
   judged-closed j i (c ∷ cs) [] = record { at = refl; incomplete = sym (add-zero (j .incomplete)); evaluated = sym (add-zero (j .evaluations)); legal = sym (and-true (j .legal)) }
   judged-closed j i (c ∷ cs) (v ∷ vs) =
@@ -57,7 +60,7 @@ module _ (p : Chosen) (same : Bool) (cells : List ℕ) where
       let r = judged-closed (judgedBy j i (c .x .rank) v o) (suc i) cs vs in
       record {
         at = r .at;
-        incomplete = r .incomplete ∙ add-assoc (j .incomplete) (openOnes o) _;
+        incomplete = r .incomplete ∙ add-assoc (j .incomplete) (incompleteOnes o) _;
         evaluated = r .evaluated ∙ add-assoc (j .evaluations) (costOf o) _;
         legal = r .legal ∙ and-assoc (j .legal) (legalVerdict (c .x .rank) v) (allLegal cs vs);
       }
@@ -107,7 +110,7 @@ module _ (p : Chosen) (b : Block) (n : ℕ) where
   entry-by c O.False = refl
   entry-by c O.Area = refl
   entry-by c (O.Point place) = refl
-  entry-by c (O.Open tried) = refl
+  entry-by c (O.Incomplete tried) = refl
 
   -- turning what was noted plans all children
   planned-places : (k : ℕ) (cs : List Block) (os : List Outcome) → length cs ≡ k
@@ -140,7 +143,7 @@ queued-turns turn (c ∷ cs) (O.Skipped ∷ os) = rw (queued-turns turn cs os) (
 queued-turns turn (c ∷ cs) (O.False ∷ os) = rw (queued-turns turn cs os) (zero-add _)
 queued-turns turn (c ∷ cs) (O.Area ∷ os) = rw (queued-turns turn cs os) (zero-add _)
 queued-turns turn (c ∷ cs) (O.Point n ∷ os) = rw (queued-turns turn cs os) (zero-add _)
-queued-turns turn (c ∷ cs) (O.Open n ∷ os) = rw (queued-turns turn cs os) (go (turn c))
+queued-turns turn (c ∷ cs) (O.Incomplete n ∷ os) = rw (queued-turns turn cs os) (go (turn c))
   where
     go : (t : Turned) → queuedOnes (plannedTurn c t .fate) + length (queuedBy (turnEvents turn cs os)) ≡ length (queuedBy (turnEvent t ∷ turnEvents turn cs os))
     go (T.To d) = omega arith
@@ -177,7 +180,7 @@ module _ (p : Chosen) (b : Block) (same : Bool) (cells : List ℕ) (k : Children
       → turnedFrom p (startOf p b (judged .incomplete)) (unturned b (k .count) (judged .evaluations) (judged .legal)) 0 (k .at) (judged .at) ≡ planBy p b k os vs
   unfolding planBy
   plan-made four =
-      let n = openCount os in
+      let n = incompleteCount os in
       let turn = turned p b n in
       let start = startOf p b n in
       let r = unturned b (k .count) (judged .evaluations) (judged .legal) in
@@ -222,7 +225,7 @@ blocks-listed b cs = take-at cs (replicate (4 - length cs) b) (length cs) refl
 plan-by-listed : (p : Chosen) (b : Block) (cs : List Block) (os : List Outcome) (vs : List ℕ) → length os ≤ length cs → planBy p b (listed b cs) os vs ≡ planFrom p b cs os vs
 unfolding planBy planFrom eventsFor
 plan-by-listed p b cs os vs h =
-    let turn = turned p b (openCount os) in
+    let turn = turned p b (incompleteCount os) in
     let k = 4 - length cs in
     let places : plannedAll turn (cs ++ replicate k b) os ≡ plannedList b (plannedAll turn cs os) =
     planned-behind turn cs os k b h ∙ ap (λ (m : ℕ). plannedAll turn cs os ++ replicate (4 - m) (untouched b)) (sym (planned-length turn cs os)) in
@@ -243,8 +246,8 @@ module _ (p : Chosen) (b : Block) (vs cells : List ℕ) where
   unfolding outcomes atOnce
   no-kids cs e = rw e
 
-  kids-in-turn : outcomes p (meanings cells) kids vs ≡ atOnce p (alike p b) cells false kids vs
-  kids-in-turn =
+  kids-in-order : outcomes p (meanings cells) kids vs ≡ atOnce p (alike p b) cells false kids vs
+  kids-in-order =
       cases (enoughCells p (length cells))
       (λ e. cases (sound p b)
       (λ ok. rw e (at-once p b cells vs ok (leb-true (p .width * p .height) (length cells) e)))
@@ -259,7 +262,7 @@ module _ (p : Chosen) (b : Block) (vs cells : List ℕ) where
 
   pub plan-of : planListed p b (listed b kids) vs cells ≡ planOf p b vs (meanings cells)
   unfolding planOf
-  plan-of = kids-listed ∙ rw (kids-planned, kids-in-turn)
+  plan-of = kids-listed ∙ rw (kids-planned, kids-in-order)
 
   -- where there is a cell for each pixel, the plan of all children is the step's
   pub plan-listed : enoughCells p (length cells) ≡ true → planListed p b (listed b (childrenOf p b)) vs cells ≡ planOf p b vs (meanings cells)

@@ -11,6 +11,8 @@ use lib.Dec.{ltb}
 use lib.ListN.{length}
 use borrow.Author.Tests.{ltb-true, ltb-false}
 use Rattle.base.proofs.Test.{by-test}
+use Rattle.base.specs.Lists.{Every}
+use Rattle.base.proofs.ListLaws.{every-also}
 use Rattle.coordinate.specs.Axis.{ordinaryFloor, pixel}
 use Rattle.coordinate.proofs.CoverLaws.{half-pixel}
 use Rattle.image.specs.Range.{rectangleOf}
@@ -19,7 +21,8 @@ use Rattle.queue.specs.declared.directions.Direction.{Direction}
 use Rattle.queue.specs.declared.directions.Direction.the-variants as D
 use Rattle.queue.specs.declared.directions.DirectionAt.{DirectionAt}
 use Rattle.queue.specs.declared.directions.DirectionAt.the-variants as A
-use Rattle.queue.specs.Directions.{inUse, usedOf, directions, parameters, directionAt, ones}
+use Rattle.queue.specs.Directions.{inUse, usedOf, directions, parameters, directionAt}
+use Rattle.queue.specs.DirectionsComputed.{ones}
 use Rattle.queue.proofs.DirectionLaws.{used-length, at-first}
 use Rattle.queue.proofs.RoundTrip.{CanQueue}
 use Rattle.decide.specs.declared.Chosen.{Chosen}
@@ -29,7 +32,6 @@ use Rattle.decide.specs.declared.turn.Turned.the-variants as T
 use Rattle.decide.specs.Damage.{undamaged, sound, directionOf, directionRight}
 use Rattle.decide.specs.Children.{quartersOf, beginsInside, keptInside, childrenXY, childrenCut, childrenAlong, childrenOf}
 use Rattle.decide.specs.Turn.{startOf, subdivisibleAlong, searchedFrom, searched, turnedTo, turnedBy, turned}
-use Rattle.plan.proofs.Each.{Each, each-also}
 use Rattle.decide.proofs.DamageLaws.{LegalParameters, undamaged-is, is-sound, sound-from}
 use Rattle.decide.proofs.ListingLaws.{cut-along}
 use Rattle.plan.proofs.PlaceLaws.{InPlace, QuarterOf, each-kept, quarters-are, cut-in-place}
@@ -171,7 +173,7 @@ module _ (p : Chosen) (b : Block) (n : ℕ) (ok : sound p b ≡ true) where
   abbrev pub SameRectangle : Block → Type 0
   SameRectangle c = turned p b n c ≡ T.Nowhere → rectangleOf (c .x) (c .y) (p .width) (p .height) ≡ rectangleOf (b .x) (b .y) (p .width) (p .height)
 
-  xy-nowhere : directionOf p b ≡ A.Along D.XY → Each SameRectangle (childrenXY p b)
+  xy-nowhere : directionOf p b ≡ A.Along D.XY → Every SameRectangle (childrenXY p b)
   unfolding childrenXY
   xy-nowhere e =
       let u = direction-in-use p b D.XY e in
@@ -183,14 +185,14 @@ module _ (p : Chosen) (b : Block) (n : ℕ) (ok : sound p b ≡ true) where
       let xr = z .x-rank in
       let yr = z .y-rank in
       quarter-rectangle b c (p .width) (p .height) z (omega arith) (omega arith)) in
-      by-test (Each SameRectangle) (ltb 48 (b .x .rank)) (keptInside p (quartersOf b)) (quartersOf b)
-      (λ i. each-kept p SameRectangle (quartersOf b) (each-also (QuarterOf b) (λ c. beginsInside p c ≡ true → SameRectangle c) (λ c z j. each c z) (quartersOf b) q))
-      (λ i. each-also (QuarterOf b) SameRectangle each (quartersOf b) q)
+      by-test (Every SameRectangle) (ltb 48 (b .x .rank)) (keptInside p (quartersOf b)) (quartersOf b)
+      (λ i. each-kept p SameRectangle (quartersOf b) (every-also (QuarterOf b) (λ c. beginsInside p c ≡ true → SameRectangle c) (λ c z j. each c z) (quartersOf b) q))
+      (λ i. every-also (QuarterOf b) SameRectangle each (quartersOf b) q)
 
-  cut-nowhere : (d : Direction) → Each SameRectangle (childrenCut b d)
-  cut-nowhere d = each-also (InPlace b) SameRectangle (λ c i t. rw (i .x, i .y)) (childrenCut b d) (cut-in-place b d)
+  cut-nowhere : (d : Direction) → Every SameRectangle (childrenCut b d)
+  cut-nowhere d = every-also (InPlace b) SameRectangle (λ c i t. rw (i .x, i .y)) (childrenCut b d) (cut-in-place b d)
 
-  along-nowhere : (a : DirectionAt) → directionOf p b ≡ a → Each SameRectangle (childrenAlong p b a)
+  along-nowhere : (a : DirectionAt) → directionOf p b ≡ a → Every SameRectangle (childrenAlong p b a)
   along-nowhere (A.Along D.XY) e = xy-nowhere e
   along-nowhere (A.Along D.M) e = cut-nowhere D.M
   along-nowhere (A.Along D.N) e = cut-nowhere D.N
@@ -198,6 +200,6 @@ module _ (p : Chosen) (b : Block) (n : ℕ) (ok : sound p b ≡ true) where
   along-nowhere (A.Along D.T) e = cut-nowhere D.T
   along-nowhere A.Beyond e = ((λ t. refl), tt)
 
-  pub nowhere-same : Each SameRectangle (childrenOf p b)
+  pub nowhere-same : Every SameRectangle (childrenOf p b)
   unfolding childrenOf
   nowhere-same = rw ok (along-nowhere (directionOf p b) refl)

@@ -3,23 +3,25 @@
 ghost use mathlib.Core.Path.{_≡_};
 ghost use Prim.Native.Nat.{_≤_, _<_, min};
 ghost use lib.ListN.{length};
-ghost use Rattle.plan.specs.AtOnce.{alike, trueAsGiven, outcomeAtOnce, planListed, fateOf, openOnes, judgedBy, unjudged, turnedPlan, queuedOnes, turnedFrom, unturned};
+ghost use Rattle.plan.specs.AtOnce.{alike, trueAsGiven, outcomeAtOnce, planListed};
+ghost use Rattle.plan.specs.PlanComputed.{fateOf, incompleteOnes, judgedBy, unjudged, turnedPlan, queuedOnes, turnedFrom, unturned};
 ghost use Rattle.decide.specs.Turn.{startOf};
 ghost use Rattle.decide.specs.Verdict.{costOf, isMarking};
+use coordinate::PIXEL_RANK;
+use decide::Children;
 use decide::Chosen;
-use decide::children::Children;
-use decide::turn::Turned;
-use decide::turn::start_of;
-use decide::turn::turn_from;
-use decide::verdict::Outcome;
-use decide::verdict::cost_of;
-use decide::verdict::is_legal_verdict;
-use decide::verdict::judge;
+use decide::Outcome;
+use decide::Turned;
+use decide::cost_of;
+use decide::is_legal_verdict;
+use decide::judge;
+use decide::start_of;
+use decide::turn_from;
 use image::Seen;
 use queue::Block;
-use queue::directions::Direction;
-use queue::directions::DirectionAt;
-use queue::directions::direction_at;
+use queue::Direction;
+use queue::DirectionAt;
+use queue::direction_at;
 
 // What a step does about a child.
 pub enum Fate {
@@ -88,7 +90,7 @@ fn is_alike(p: Chosen, b: Block) -> bool
     let x = b.x;
     match direction_at(p.set, b.dir) {
         DirectionAt::Along(d) => match d {
-            Direction::XY => x.rank <= 48,
+            Direction::XY => x.rank <= PIXEL_RANK,
             Direction::M => true,
             Direction::N => true,
             Direction::Theta => true,
@@ -152,7 +154,7 @@ fn note_outcome(j: Judged, i: usize, rank: u8, v: u8, o: Outcome) -> Judged
     at[i] = e;
     Judged {
         at,
-        incomplete: j.incomplete + count_open(o),
+        incomplete: j.incomplete + count_incomplete(o),
         evaluations: j.evaluations + cost_of(o),
         marked: j.marked | is_marking(o),
         legal: j.legal & is_legal_verdict(rank, v),
@@ -167,20 +169,20 @@ fn fate_of(o: Outcome) -> Fate
         Outcome::False => Fate::Nothing,
         Outcome::Area => Fate::Mark,
         Outcome::Point(_) => Fate::Mark,
-        Outcome::Open(_) => Fate::Queue,
+        Outcome::Incomplete(_) => Fate::Queue,
     }
 }
 
 // 1 for an incomplete child.
-fn count_open(o: Outcome) -> usize
-    ensures { λ r. ⌜ r ≡ openOnes o ⌝ }
+fn count_incomplete(o: Outcome) -> usize
+    ensures { λ r. ⌜ r ≡ incompleteOnes o ⌝ }
 {
     match o {
         Outcome::Skipped => 0,
         Outcome::False => 0,
         Outcome::Area => 0,
         Outcome::Point(_) => 0,
-        Outcome::Open(_) => 1,
+        Outcome::Incomplete(_) => 1,
     }
 }
 
@@ -192,7 +194,7 @@ fn is_marking(o: Outcome) -> bool
         Outcome::False => false,
         Outcome::Area => true,
         Outcome::Point(_) => true,
-        Outcome::Open(_) => false,
+        Outcome::Incomplete(_) => false,
     }
 }
 

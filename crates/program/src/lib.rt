@@ -1,6 +1,6 @@
 // The program's work, from one descriptor to another: a sheet is read, and its text is written. Document 01, "Program and values".
 // No contract can speak of what is read or written. The buffers are lent, so that what can be said is: the text of the bytes that were read
-// is what was handed to be written. The rest is played by `sheets`, on files.
+// is what was handed to be written. The rest is played by `replay_sheets`, on files.
 ghost use mathlib.Core.Path.{_≡_};
 ghost use mathlib.Core.List.{_++_};
 ghost use Prim.Native.Nat.{_≤_};

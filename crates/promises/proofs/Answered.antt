@@ -4,43 +4,43 @@
 use mathlib.Core.Path.{_≡_, refl, sym, ap, _∙_}
 use mathlib.Core.Bool.{Bool, true, false, _&&_}
 use mathlib.Core.List.{List, _++_}
-use Prim.Native.Nat.{ℕ, suc, _+_, _≤_}
+use Prim.Native.Nat.{ℕ, suc, _+_}
 use native.Mathlib.Omega.{arith}
 use lib.Dec.{leb, ltb}
-use lib.ListN.{length, take}
+use lib.ListN.{length}
 use Rattle.refusal.specs.declared.Refusal.{Refusal}
 use Rattle.refusal.specs.declared.Refusal.the-variants as R
 use Rattle.interval.specs.Bounds.{InFormat}
 use Rattle.decide.specs.declared.Chosen.{Chosen}
 use Rattle.implicit.specs.declared.state.Ranges.{Ranges}
 use Rattle.implicit.specs.declared.state.State.{State}
-use Rattle.implicit.specs.declared.state.Started.{Started}
-use Rattle.implicit.specs.declared.state.Started.the-variants as S
-use Rattle.implicit.specs.declared.state.Stepped.{Stepped}
-use Rattle.implicit.specs.declared.state.Stepped.the-variants as T
+use Rattle.implicit.specs.declared.state.SetupAnswer.{SetupAnswer}
+use Rattle.implicit.specs.declared.state.SetupAnswer.the-variants as S
+use Rattle.implicit.specs.declared.state.StepAnswer.{StepAnswer}
+use Rattle.implicit.specs.declared.state.StepAnswer.the-variants as T
 use Rattle.implicit.specs.declared.state.Ending.{Ending}
-use Rattle.implicit.specs.declared.state.Ran.{Ran}
-use Rattle.implicit.specs.declared.state.Ran.the-variants as A
-use Rattle.implicit.specs.Setup.{cleared, startedAnswer, ringBegun, cellsBegun}
+use Rattle.implicit.specs.declared.state.RunAnswer.{RunAnswer}
+use Rattle.implicit.specs.declared.state.RunAnswer.the-variants as A
+use Rattle.implicit.specs.Setup.{cleared, setupAnswer, ringBegun, cellsBegun}
 use Rattle.implicit.specs.Step.{World, worldOf, StepEnd, refused, finished, stepOf, EndsAs}
-use Rattle.implicit.specs.Run.{RunAnswer, notRun, hasRun, runOf, RunsAs}
-use Rattle.implicit.specs.declared.state.Moved.{Moved}
-use Rattle.implicit.specs.declared.state.Moved.the-variants as M
+use Rattle.implicit.specs.Run.{RunResult, notRun, hasRun, runOf, RunsAs}
+use Rattle.implicit.specs.declared.state.MoveAnswer.{MoveAnswer}
+use Rattle.implicit.specs.declared.state.MoveAnswer.the-variants as M
 use Rattle.implicit.specs.Record.{refusedUnless, soundRecord}
-use Rattle.implicit.specs.Move.{movedWorld, MoveEnd, notMoved, moved, moveOf, moveAnswer, otherAfter, MovesAs}
+use Rattle.implicit.specs.Move.{movedWorld, notMoved, moved, moveOf, moveAnswer, otherAfter, MovesAs}
 use Rattle.implicit.specs.Answers.{setupNumber, setupState}
 use Rattle.promises.specs.Steps.{BegunAs, MovesTo, to-ring, Steps, then-step, verdictsOf, evaluationsOf}
 use Rattle.promises.specs.Calls.{askedBy, ranTo}
 
 -- SETUP
-pub setup-begins : (chosen : Chosen) (ranges : Ranges) (ring cells ring′ cells′ : List ℕ) (r : Started)
+pub setup-begins : (chosen : Chosen) (ranges : Ranges) (ring cells ring′ cells′ : List ℕ) (r : SetupAnswer)
     → InFormat (ranges .m) × InFormat (ranges .n) × InFormat (ranges .theta) × InFormat (ranges .t)
-    → r ≡ startedAnswer (cleared chosen) ranges (length ring) (length cells)
+    → r ≡ setupAnswer (cleared chosen) ranges (length ring) (length cells)
     → ring′ ≡ ringBegun (cleared chosen) ranges ring cells
     → cells′ ≡ cellsBegun (cleared chosen) ranges ring cells
     → (s : State) → r ≡ S.Ready s → BegunAs (askedBy chosen ranges ring cells) (worldOf s ring′ cells′)
 setup-begins chosen ranges ring cells ring′ cells′ r held answer ring-left cells-left s ready =
-    let e : startedAnswer (cleared chosen) ranges (length ring) (length cells) ≡ S.Ready s = sym answer ∙ ready in
+    let e : setupAnswer (cleared chosen) ranges (length ring) (length cells) ≡ S.Ready s = sym answer ∙ ready in
     record { accepted = ap setupNumber e; state = ap setupState e; ring = ring-left; cells = cells-left; held = held }
 
 -- STEP
@@ -59,7 +59,7 @@ ends-refused : (w : World) (e : StepEnd) (why : Refusal) (s : State) (ring cells
 ends-refused w (refused reason) why s ring cells h = let f = h .0 in let i : s ≡ w .state = cc in rw (i, h .1, h .2) refl
 ends-refused w (finished left m n) why s ring cells h = let f = h .0 in let z : _≡_ {A = ℕ} 0 1 = cc in absurd (omega arith)
 
-module _ (s : State) (ring cells verdicts ring′ cells′ : List ℕ) (r : Stepped)
+module _ (s : State) (ring cells verdicts ring′ cells′ : List ℕ) (r : StepAnswer)
     (ensures : EndsAs (worldOf s ring cells) (stepOf (worldOf s ring cells) verdicts) r ring′ cells′) where
   pub step-finishes : (s′ : State) (evals bytes : ℕ) → r ≡ T.Finished s′ evals bytes
       → stepOf (worldOf s ring cells) verdicts ≡ finished (worldOf s′ ring′ cells′) evals bytes
@@ -75,7 +75,7 @@ module _ (s : State) (ring cells verdicts ring′ cells′ : List ℕ) (r : Step
 
 -- RUN
 
-runs-ended : (w : World) (a : RunAnswer) (s : State) (steps evals bytes : ℕ) (ending : Ending) (ring cells : List ℕ)
+runs-ended : (w : World) (a : RunResult) (s : State) (steps evals bytes : ℕ) (ending : Ending) (ring cells : List ℕ)
     → RunsAs w a (A.Ended s steps evals bytes ending) ring cells → a ≡ hasRun (ranTo s ring cells steps evals bytes ending)
 runs-ended w (notRun why) s steps evals bytes ending ring cells h = let f = h .0 in let z : _≡_ {A = ℕ} 0 1 = cc in absurd (omega arith)
 runs-ended w (hasRun e) s steps evals bytes ending ring cells h =
@@ -87,7 +87,7 @@ runs-ended w (hasRun e) s steps evals bytes ending ring cells h =
     let m : ending ≡ e .ending = cc in
     rw (i, j, k, l, m, h .1, h .2) refl
 
-pub run-ends : (s : State) (ring cells tape ring′ cells′ : List ℕ) (budget : ℕ) (r : Ran)
+pub run-ends : (s : State) (ring cells tape ring′ cells′ : List ℕ) (budget : ℕ) (r : RunAnswer)
     → RunsAs (worldOf s ring cells) (runOf budget (worldOf s ring cells) tape) r ring′ cells′
     → (s′ : State) (steps evals bytes : ℕ) (ending : Ending) → r ≡ A.Ended s′ steps evals bytes ending
     → runOf budget (worldOf s ring cells) tape ≡ hasRun (ranTo s′ ring′ cells′ steps evals bytes ending)
@@ -103,7 +103,7 @@ moves-done w other true true left s after f g = let i : s ≡ left .state = cc i
 moves-done w other true false left s after f g = let z : _≡_ {A = ℕ} 0 1 = cc in absurd (omega arith)
 moves-done w other false u left s after f g = let z : _≡_ {A = ℕ} 0 1 = cc in absurd (omega arith)
 
-pub move-moves : (s : State) (ring cells other other′ : List ℕ) (r : Moved) → MovesAs s ring other r other′
+pub move-moves : (s : State) (ring cells other other′ : List ℕ) (r : MoveAnswer) → MovesAs s ring other r other′
     → (s′ : State) → r ≡ M.Done s′ → MovesTo (worldOf s ring cells) (worldOf s′ other′ cells)
 unfolding moveOf movedWorld
 move-moves s ring cells other other′ r ensures s′ e =

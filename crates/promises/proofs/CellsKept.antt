@@ -9,23 +9,24 @@ use lib.Dec.{leb}
 use lib.ListN.{length}
 use borrow.Author.Tests.{lt-ltb}
 use Rattle.base.specs.Event.{Event, marks, queues, givesUp, queuedBy}
+use Rattle.base.specs.Lists.{Every}
 use Rattle.theory.specs.Runs.{cellAfter}
 use Rattle.image.specs.declared.Op.{Op}
 use Rattle.image.specs.declared.Op.the-variants as O
 use Rattle.image.specs.declared.PixelRange.{PixelRange}
-use Rattle.image.specs.Cell.{Cell, Named, Marked, GivenUp, Other, meanings, codes, hasCode, doneTo, nameable, isDamaged}
+use Rattle.image.specs.Cell.{Cell, Named, Marked, GivenUp, Other, meanings, codes, doneTo, nameable, isDamaged}
 use Rattle.image.specs.Range.{holdsCell, rectangleOf}
 use Rattle.image.specs.Painting.{mapAt, painted, pixelCell}
-use Rattle.image.proofs.CellLaws.{meaning-code, meaning-proper, done-proper}
+use Rattle.image.proofs.CellLaws.{hasCode, meaning-code, meaning-proper, done-proper}
 use Rattle.image.proofs.PaintLaws.{painted-length}
 use Rattle.image.proofs.BlockLaws.{painted-pixel}
 use Rattle.queue.specs.declared.Block.{Block}
 use Rattle.decide.specs.declared.Chosen.{Chosen}
 use Rattle.plan.specs.Plan.{paintedUnder, cellsAfter}
-use Rattle.plan.proofs.Each.{Each}
 use Rattle.plan.proofs.CoverLaws.{covers}
 use Rattle.plan.proofs.EventLaws.{EachEvent}
-use Rattle.promises.specs.Chart.{Pixel, coversIn, standing, standingAt}
+use Rattle.promises.specs.Chart.{Pixel, coversIn}
+use Rattle.promises.proofs.Snapshots.{standing, standingAt}
 use Rattle.promises.proofs.Covering.{Level, covers-as}
 use Rattle.promises.proofs.Standings.{mark-as, name-as, give-up-as}
 
@@ -34,15 +35,15 @@ use Rattle.promises.proofs.Standings.{mark-as, name-as, give-up-as}
 abbrev pub Coded : Cell → Type 0
 Coded c = hasCode c ≡ true
 
-pub meanings-coded : (l : List ℕ) → Each Coded (meanings l)
+pub meanings-coded : (l : List ℕ) → Every Coded (meanings l)
 meanings-coded [] = tt
 meanings-coded (n ∷ l) = (meaning-proper n, meanings-coded l)
 
-pub codes-back : (l : List Cell) → Each Coded l → meanings (codes l) ≡ l
+pub codes-back : (l : List Cell) → Every Coded l → meanings (codes l) ≡ l
 codes-back [] h = refl
 codes-back (c ∷ l) h = ap₂ _∷_ (meaning-code c (h .0)) (codes-back l (h .1))
 
-coded-at : (t : ℕ → Bool) (op : Op) (i : ℕ) (l : List Cell) → nameable op ≡ true → Each Coded l → Each Coded (mapAt (λ j c. cond (t j) (doneTo op c) c) i l)
+coded-at : (t : ℕ → Bool) (op : Op) (i : ℕ) (l : List Cell) → nameable op ≡ true → Every Coded l → Every Coded (mapAt (λ j c. cond (t j) (doneTo op c) c) i l)
 coded-at t op i [] k h = tt
 coded-at t op i (c ∷ l) k h = (go (t i), coded-at t op (suc i) l k (h .1))
   where
@@ -50,13 +51,13 @@ coded-at t op i (c ∷ l) k h = (go (t i), coded-at t op (suc i) l k (h .1))
     go true = done-proper op c k (h .0)
     go false = h .0
 
-pub coded-painted : (width : ℕ) (r : PixelRange) (op : Op) (l : List Cell) → nameable op ≡ true → Each Coded l → Each Coded (painted width r op l)
+pub coded-painted : (width : ℕ) (r : PixelRange) (op : Op) (l : List Cell) → nameable op ≡ true → Every Coded l → Every Coded (painted width r op l)
 unfolding painted
 coded-painted width r op l k h = coded-at (holdsCell width r) op 0 l k h
 
 -- all cells have codes after the events, if all new numbers are numbers of blocks
-pub coded-after : (p : Chosen) (b : Block) (number new : ℕ) (es : List (Event Block)) (l : List Cell) → new + length (queuedBy es) ≤ 2 ^ 32 → Each Coded l
-    → Each Coded (cellsAfter p b number new es l)
+pub coded-after : (p : Chosen) (b : Block) (number new : ℕ) (es : List (Event Block)) (l : List Cell) → new + length (queuedBy es) ≤ 2 ^ 32 → Every Coded l
+    → Every Coded (cellsAfter p b number new es l)
 unfolding cellsAfter queuedBy nameable
 coded-after p b number new [] l k h = h
 coded-after p b number new (marks c ∷ es) l k h =

@@ -17,7 +17,6 @@ use lib.Signed.{leZ-yes}
 use Rattle.small.specs.Small.{readBehind, readSmall}
 use Rattle.base.specs.Bytes.{littleEndian, ofLittleEndian}
 use Rattle.base.specs.Event.{queuedBy}
-use Rattle.base.proofs.Test.{both-of}
 use Rattle.interval.specs.declared.Interval.{Interval}
 use Rattle.interval.specs.Bounds.{wholeBound, legalInterval, zeroAs, putInterval, inUnits}
 use Rattle.coordinate.specs.Axis.{inRange, pixel, places, inside}
@@ -32,15 +31,14 @@ use Rattle.queue.specs.declared.directions.Direction.the-variants as D
 use Rattle.queue.specs.Directions.{usedOf, directions, directionAt}
 use Rattle.queue.specs.Block.{wholeLine, remembered, startingLast, withParameter}
 use Rattle.queue.specs.Decode.{levelRead, coordinateOf, coordinateRead, parameterRead, withX, placeRead, addParameter, addParameters, addDirection, decode}
-use Rattle.queue.specs.Ring.{olderRun, newerRun, content}
+use Rattle.queue.specs.Ring.{olderStretch, newerStretch, content}
 use Rattle.queue.specs.Queue.{taken, queueOf}
 use Rattle.decide.specs.Damage.{legalChosen, undamaged}
 use Rattle.decide.specs.Children.{quartersOf, keptInside, childrenXY, childrenOf}
-use Rattle.decide.specs.Verdict.{undecidedOutcome, toldOutcome}
+use Rattle.decide.specs.Verdict.{undecidedOutcome, verdictOutcome}
 use Rattle.decide.specs.Turn.{startOf, searchedFrom, turned}
-use Rattle.plan.specs.Plan.{allTrue, outcomes, openCount, markEvents, turnEvents, eventsFor}
+use Rattle.plan.specs.Plan.{allTrue, outcomes, incompleteCount, markEvents, turnEvents, eventsFor}
 use Rattle.implicit.specs.Setup.{leastFrom, startLevel}
-use Rattle.theory.specs.Lists.{Every}
 use Rattle.theory.specs.Demand3.{anyGivesUp, CoversAtMostOne}
 use Rattle.theory.specs.Levels.{sumTo, placesAlong}
 use Rattle.theory.specs.Shapes.{beginsIn, coversAlong, coversPixel}
@@ -50,7 +48,7 @@ use Rattle.theory.specs.Cuts.{Span, FromEnd, UpToEnd, InSpan, OverEnd, UnderEnd
 use Rattle.theory.proofs.Bounds.{same-pixel}
 use Rattle.promises.specs.Chart.{Pixel, coversIn, queuedBlocks}
 use Rattle.promises.specs.Steps.{no-steps, readsIn, NoneQueuedCovers, GivenUpIn, gaveUpTaking, queuedSince, newTaking, PlaneOnly}
-use Rattle.promises.specs.Turns.{EveryAnswer}
+use Rattle.promises.specs.Judgements.{EveryAnswer}
 use Rattle.promises.specs.Mixes.{Mix, wholeOf, endBy, integers, LiesIn, HeldIn, questionOf}
 use Rattle.promises.specs.Sentences.{FalseRule, FalseStays, LeavesAfter, PixelBound, WhiteMeansNo}
 use Rattle.promises.proofs.MixesExact.{NotOver, ratioOf, exactly}
@@ -82,7 +80,12 @@ not-this a b h e = absurd (apart (same a b) h (subst (λ (r : Reading). T (same 
 
 -- the one pixel was given up, and reads Uncertain; it isn't True, and nothing is queued
 pub was-given-up : GivenUpIn (one .chosen) gave-up only
-unfolding GivenUpIn gave-up gaveUpTaking anyGivesUp queuedBlocks queueOf legalInterval wholeBound zeroAs putInterval startingLast remembered taken content olderRun newerRun decode placeRead withX coordinateRead coordinateOf readSmall readBehind levelRead addParameters addParameter parameterRead addDirection inRange directions usedOf directionAt ofLittleEndian littleEndian le trailingZeros undamaged legalChosen inside places pixel rectangleOf holdsCell heldCells everyOf isMarked meaningOf cellCode childrenOf childrenXY keptInside quartersOf outcomes allTrue toldOutcome undecidedOutcome openCount eventsFor markEvents turnEvents turned startOf searchedFrom painted doneTo queuedBy coversPixel coversAlong beginsIn
+unfolding GivenUpIn gave-up gaveUpTaking anyGivesUp queuedBlocks queueOf legalInterval wholeBound zeroAs putInterval startingLast remembered
+    taken content olderStretch newerStretch decode placeRead withX coordinateRead coordinateOf readSmall readBehind levelRead addParameters
+    addParameter parameterRead addDirection inRange directions usedOf directionAt ofLittleEndian littleEndian le trailingZeros undamaged
+    legalChosen inside places pixel rectangleOf holdsCell heldCells everyOf isMarked meaningOf cellCode childrenOf childrenXY keptInside
+    quartersOf outcomes allTrue verdictOutcome undecidedOutcome incompleteCount eventsFor markEvents turnEvents turned startOf searchedFrom painted
+    doneTo queuedBy coversPixel coversAlong beginsIn
 was-given-up = inr tt
 
 pub given-up-waits : (s : FalseRule one waits) → Claim (s 1 given-up gave-up only)
@@ -91,7 +94,12 @@ given-up-waits s = (not-this _ _ tt, (λ (not-true, not-up, none). absurd (not-u
 
 -- of the two pixels, after the second step: the left one reads False, and none of the three holds of it; a queued block covers the right one
 pub left-is-false : (s : FalseRule two (after 0)) → Claim (s 2 (after 2) (ran 2 (lit≤ tt)) left)
-unfolding readsIn reading same ran GivenUpIn gaveUpTaking anyGivesUp NoneQueuedCovers Every coversPixel coversAlong beginsIn queuedBlocks queueOf legalInterval wholeBound zeroAs putInterval startingLast remembered taken content olderRun newerRun decode placeRead withX coordinateRead coordinateOf readSmall readBehind levelRead addParameters addParameter parameterRead addDirection inRange directions usedOf directionAt ofLittleEndian littleEndian le trailingZeros undamaged legalChosen inside places pixel rectangleOf holdsCell heldCells everyOf isMarked meaningOf cellCode childrenOf childrenXY keptInside quartersOf outcomes allTrue toldOutcome undecidedOutcome openCount eventsFor markEvents turnEvents turned startOf searchedFrom painted doneTo queuedBy
+unfolding readsIn reading same ran GivenUpIn gaveUpTaking anyGivesUp NoneQueuedCovers coversPixel coversAlong beginsIn queuedBlocks queueOf
+    legalInterval wholeBound zeroAs putInterval startingLast remembered taken content olderStretch newerStretch decode placeRead withX
+    coordinateRead coordinateOf readSmall readBehind levelRead addParameters addParameter parameterRead addDirection inRange directions
+    usedOf directionAt ofLittleEndian littleEndian le trailingZeros undamaged legalChosen inside places pixel rectangleOf holdsCell
+    heldCells everyOf isMarked meaningOf cellCode childrenOf childrenXY keptInside quartersOf outcomes allTrue verdictOutcome undecidedOutcome
+    incompleteCount eventsFor markEvents turnEvents turned startOf searchedFrom painted doneTo queuedBy
 left-is-false s = ((λ e. (not-this _ _ tt, never, ((λ t. t), tt))), (λ h. refl))
   where
     never : (⊥ ⊎ ⊥) ⊎ ⊥ → ⊥
@@ -100,7 +108,10 @@ left-is-false s = ((λ e. (not-this _ _ tt, never, ((λ t. t), tt))), (λ h. ref
     never (inr z) = z
 
 pub right-waits : (s : FalseRule two (after 0)) → Claim (s 2 (after 2) (ran 2 (lit≤ tt)) right)
-unfolding readsIn reading meaningOf same NoneQueuedCovers Every coversPixel coversAlong beginsIn queuedBlocks queueOf legalInterval wholeBound zeroAs putInterval startingLast remembered taken content olderRun newerRun decode placeRead withX coordinateRead coordinateOf readSmall readBehind levelRead addParameters addParameter parameterRead addDirection inRange directions usedOf directionAt ofLittleEndian littleEndian le trailingZeros
+unfolding readsIn reading meaningOf same NoneQueuedCovers coversPixel coversAlong beginsIn queuedBlocks queueOf legalInterval wholeBound
+    zeroAs putInterval startingLast remembered taken content olderStretch newerStretch decode placeRead withX coordinateRead coordinateOf readSmall
+    readBehind levelRead addParameters addParameter parameterRead addDirection inRange directions usedOf directionAt ofLittleEndian
+    littleEndian le trailingZeros
 right-waits s = (not-this _ _ tt, (λ (not-true, not-up, none). absurd (none .0 tt)))
 
 -- and after the third the right one is True
@@ -116,28 +127,42 @@ unfolding readsIn reading meaningOf
 left-stays-false s e = refl
 
 -- the right pixel reads Uncertain after the second and True after the third, so of it the sentence says nothing
-pub right-turns-true : (s : FalseStays two (after 0)) → Claim (s 2 1 (after 2) (after 3) (ran 2 (lit≤ tt)) last-step right)
+pub right-becomes-true : (s : FalseStays two (after 0)) → Claim (s 2 1 (after 2) (after 3) (ran 2 (lit≤ tt)) last-step right)
 unfolding readsIn reading meaningOf same
-right-turns-true s = not-this _ _ tt
+right-becomes-true s = not-this _ _ tt
 
 -- ---- "A block with d blocks before it has left the queue after d + 1 further finished steps"
 
 -- two blocks wait after the first step; after so many more the second has left, and nothing is queued
 pub two-wait : 1 < length (queuedBlocks (after 1))
-unfolding queuedBlocks queueOf legalInterval wholeBound zeroAs putInterval startingLast remembered taken content olderRun newerRun decode placeRead withX coordinateRead coordinateOf readSmall readBehind levelRead addParameters addParameter parameterRead addDirection inRange directions usedOf directionAt ofLittleEndian littleEndian le trailingZeros
+unfolding queuedBlocks queueOf legalInterval wholeBound zeroAs putInterval startingLast remembered taken content olderStretch newerStretch decode
+    placeRead withX coordinateRead coordinateOf readSmall readBehind levelRead addParameters addParameter parameterRead addDirection inRange
+    directions usedOf directionAt ofLittleEndian littleEndian le trailingZeros
 two-wait = lit< tt
 
 pub second-leaves : (s : LeavesAfter two (after 0)) → Claim (s 1 1 (after 1) _ (ran 1 (lit≤ tt)) (ran-on _ (lit≤ tt)) two-wait)
-unfolding ran-on queuedSince newTaking queuedBlocks queueOf legalInterval wholeBound zeroAs putInterval startingLast remembered taken content olderRun newerRun decode placeRead withX coordinateRead coordinateOf readSmall readBehind levelRead addParameters addParameter parameterRead addDirection inRange directions usedOf directionAt ofLittleEndian littleEndian le trailingZeros undamaged legalChosen inside places pixel rectangleOf holdsCell heldCells everyOf isMarked meaningOf cellCode childrenOf childrenXY keptInside quartersOf outcomes allTrue toldOutcome undecidedOutcome openCount eventsFor markEvents turnEvents turned startOf searchedFrom painted doneTo queuedBy
+unfolding ran-on queuedSince newTaking queuedBlocks queueOf legalInterval wholeBound zeroAs putInterval startingLast remembered taken
+    content olderStretch newerStretch decode placeRead withX coordinateRead coordinateOf readSmall readBehind levelRead addParameters addParameter
+    parameterRead addDirection inRange directions usedOf directionAt ofLittleEndian littleEndian le trailingZeros undamaged legalChosen
+    inside places pixel rectangleOf holdsCell heldCells everyOf isMarked meaningOf cellCode childrenOf childrenXY keptInside quartersOf
+    outcomes allTrue verdictOutcome undecidedOutcome incompleteCount eventsFor markEvents turnEvents turned startOf searchedFrom painted doneTo
+    queuedBy
 second-leaves s = refl
 
 -- one block waits after the setup; after one step it has left, and its two children, queued since, stand in its place
 pub one-waits : 0 < length (queuedBlocks (after 0))
-unfolding queuedBlocks queueOf legalInterval wholeBound zeroAs putInterval startingLast remembered taken content olderRun newerRun decode placeRead withX coordinateRead coordinateOf readSmall readBehind levelRead addParameters addParameter parameterRead addDirection inRange directions usedOf directionAt ofLittleEndian littleEndian le trailingZeros
+unfolding queuedBlocks queueOf legalInterval wholeBound zeroAs putInterval startingLast remembered taken content olderStretch newerStretch decode
+    placeRead withX coordinateRead coordinateOf readSmall readBehind levelRead addParameters addParameter parameterRead addDirection inRange
+    directions usedOf directionAt ofLittleEndian littleEndian le trailingZeros
 one-waits = lit< tt
 
 pub first-leaves : (s : LeavesAfter two (after 0)) → Claim (s 0 0 (after 0) _ no-steps (ran _ (lit≤ tt)) one-waits)
-unfolding ran queuedSince newTaking queuedBlocks queueOf legalInterval wholeBound zeroAs putInterval startingLast remembered taken content olderRun newerRun decode placeRead withX coordinateRead coordinateOf readSmall readBehind levelRead addParameters addParameter parameterRead addDirection inRange directions usedOf directionAt ofLittleEndian littleEndian le trailingZeros undamaged legalChosen inside places pixel rectangleOf holdsCell heldCells everyOf isMarked meaningOf cellCode childrenOf childrenXY keptInside quartersOf outcomes allTrue toldOutcome undecidedOutcome openCount eventsFor markEvents turnEvents turned startOf searchedFrom painted doneTo queuedBy
+unfolding ran queuedSince newTaking queuedBlocks queueOf legalInterval wholeBound zeroAs putInterval startingLast remembered taken content
+    olderStretch newerStretch decode placeRead withX coordinateRead coordinateOf readSmall readBehind levelRead addParameters addParameter
+    parameterRead addDirection inRange directions usedOf directionAt ofLittleEndian littleEndian le trailingZeros undamaged legalChosen
+    inside places pixel rectangleOf holdsCell heldCells everyOf isMarked meaningOf cellCode childrenOf childrenXY keptInside quartersOf
+    outcomes allTrue verdictOutcome undecidedOutcome incompleteCount eventsFor markEvents turnEvents turned startOf searchedFrom painted doneTo
+    queuedBy
 first-leaves s = refl
 
 -- ---- ".. once the finished steps reach the sum .. no queued block covers more than one pixel."
@@ -158,10 +183,6 @@ either P a b q = go (q .x) refl
 unfoldable pub coversBoth : Block → Bool
 coversBoth b = coversIn (two .chosen) b left && coversIn (two .chosen) b right
 
-unfoldable pub noneCoversBoth : List Block → Bool
-noneCoversBoth [] = true
-noneCoversBoth (b ∷ l) = not (coversBoth b) && noneCoversBoth l
-
 at-most-one : (b : Block) → T (not (coversBoth b)) → CoversAtMostOne (coversIn (two .chosen)) b
 unfolding coversBoth CoversAtMostOne
 at-most-one b h =
@@ -177,21 +198,19 @@ at-most-one b h =
     apart true false h c d = d
     apart false d h c e = c
 
-pub one-each : (l : List Block) → T (noneCoversBoth l) → Every (CoversAtMostOne (coversIn (two .chosen))) l
-unfolding noneCoversBoth Every
-one-each [] h = tt
-one-each (b ∷ l) h = let (not-both, rest) = both-of (not (coversBoth b)) (noneCoversBoth l) h in (at-most-one b not-both, one-each l rest)
-
 pub plane : PlaneOnly (two .chosen)
-unfolding Every usedOf
+unfolding usedOf
 plane = record { plane = refl; no-parameter = (refl, (refl, (refl, (refl, tt)))) }
 
 -- as soon as the steps reach the sum, which is one, the two blocks that wait cover a pixel each
 pub sum-reached : (s : PixelBound two (after 0)) → unfold startLevel leastFrom sumTo placesAlong in Claim (s plane _ _ (ran _ (lit≤ tt)) (le-refl _))
-unfolding startLevel leastFrom sumTo placesAlong noneCoversBoth coversBoth coversPixel coversAlong beginsIn queuedBlocks queueOf legalInterval wholeBound zeroAs putInterval startingLast remembered taken content olderRun newerRun decode placeRead withX coordinateRead coordinateOf readSmall readBehind levelRead addParameters addParameter parameterRead addDirection inRange directions usedOf directionAt ofLittleEndian littleEndian le trailingZeros
-sum-reached s = one-each _ tt
+unfolding startLevel leastFrom sumTo placesAlong coversBoth coversPixel coversAlong beginsIn queuedBlocks queueOf
+    legalInterval wholeBound zeroAs putInterval startingLast remembered taken content olderStretch newerStretch decode placeRead withX
+    coordinateRead coordinateOf readSmall readBehind levelRead addParameters addParameter parameterRead addDirection inRange directions
+    usedOf directionAt ofLittleEndian littleEndian le trailingZeros
+sum-reached s = (at-most-one _ tt, (at-most-one _ tt, tt))
 
--- ---- "if every `false` verdict was right, a pixel that reads False holds no solution"
+-- ---- if every `false` verdict was right, a pixel that reads False holds no solution
 
 -- the picture's lower left corner, with 0 for each parameter
 unfoldable pub corner : Mix exactly
@@ -226,7 +245,7 @@ left-undecided s = not-this _ _ tt
 
 -- ---- three words
 
--- "was given up": a block of the left pixel just above the floor gives that pixel up, and not the right one. No step of the charts queues such a block: it is
+-- GIVEN UP: a block of the left pixel just above the floor gives that pixel up, and not the right one. No step of the charts queues such a block: it is
 -- made up here, and the word is asked of a queue that holds it alone
 abbrev low : Block
 low = record {
@@ -241,7 +260,12 @@ low = record {
 
 pub left-alone : (gaveUpTaking (two .chosen) (after 1) (64 ∷ 64 ∷ 64 ∷ 64 ∷ []) (low ∷ []) left ≡ true)
     × (gaveUpTaking (two .chosen) (after 1) (64 ∷ 64 ∷ 64 ∷ 64 ∷ []) (low ∷ []) right ≡ false)
-unfolding gaveUpTaking anyGivesUp queuedBlocks queueOf legalInterval wholeBound zeroAs putInterval startingLast remembered taken content olderRun newerRun decode placeRead withX coordinateRead coordinateOf readSmall readBehind levelRead addParameters addParameter parameterRead addDirection inRange directions usedOf directionAt ofLittleEndian littleEndian le trailingZeros undamaged legalChosen inside places pixel rectangleOf holdsCell heldCells everyOf isMarked meaningOf cellCode childrenOf childrenXY keptInside quartersOf outcomes allTrue toldOutcome undecidedOutcome openCount eventsFor markEvents turnEvents turned startOf searchedFrom painted doneTo queuedBy coversPixel coversAlong beginsIn
+unfolding gaveUpTaking anyGivesUp queuedBlocks queueOf legalInterval wholeBound zeroAs putInterval startingLast remembered taken content
+    olderStretch newerStretch decode placeRead withX coordinateRead coordinateOf readSmall readBehind levelRead addParameters addParameter
+    parameterRead addDirection inRange directions usedOf directionAt ofLittleEndian littleEndian le trailingZeros undamaged legalChosen
+    inside places pixel rectangleOf holdsCell heldCells everyOf isMarked meaningOf cellCode childrenOf childrenXY keptInside quartersOf
+    outcomes allTrue verdictOutcome undecidedOutcome incompleteCount eventsFor markEvents turnEvents turned startOf searchedFrom painted doneTo
+    queuedBy coversPixel coversAlong beginsIn
 left-alone = (refl, refl)
 
 -- which block holds an integer: [0,3] does not hold its end 0, for which there is [0,0]
@@ -257,7 +281,7 @@ pub end-apart : (¬ HeldIn exactly D.M (zeroTo 3) corner) × HeldIn exactly D.M 
 unfolding HeldIn Owes OverEnd UnderEnd wholeOf endBy corner
 end-apart = (neither (λ e. (let f = ap (λ (v : Span ℤ). v .upper) e in let z : _≡_ {A = ℕ} 0 1 = cc in absurd (omega arith))) (λ l. l .lt), inl refl)
 
--- "a block holds a mix" by each of its parameters: the corner, whose parameters are 0, is held by a block of its pixel that has [0,0] for one of them and
+-- A BLOCK HOLDS A MIX by each of its parameters: the corner, whose parameters are 0, is held by a block of its pixel that has [0,0] for one of them and
 -- the whole line for the others; it is not held by one that has [3,3]. So a false verdict about the second says nothing of the corner
 abbrev here : Block
 here = record {

@@ -10,6 +10,7 @@ use lib.ListN.{length, length-append}
 use lib.Ieee.{inf, le, lt, eq}
 use borrow.Author.Tests.{eqb-false}
 use Rattle.base.proofs.Test.{by-test, and-left, and-both}
+use Rattle.base.specs.Lists.{Every}
 use Rattle.small.proofs.Writing.{length-upto, length-some}
 use Rattle.coordinate.specs.declared.Coordinate.{Coordinate}
 use Rattle.interval.specs.declared.Interval.{Interval}
@@ -25,9 +26,8 @@ use Rattle.queue.specs.Code.{coordinateCode, boundsCode, parameterCode, paramet
 use Rattle.queue.specs.Queue.{queueCodes}
 use Rattle.queue.proofs.WriteLaws.{coordinate-length, bounds-length, encode-length}
 use Rattle.queue.proofs.LengthLaws.{place-length, parameters-length}
-use Rattle.queue.proofs.KeptLaws.{fine-legal}
+use Rattle.queue.proofs.KeptLaws.{fine-legal, recalled-is}
 use Rattle.queue.proofs.RoundTrip.{CanQueue}
-use Rattle.plan.proofs.Each.{Each}
 use Rattle.implicit.specs.Room.{parameterCount}
 
 -- A COORDINATE: 2 to 8 bytes, and 2 behind an index with the same half
@@ -161,16 +161,16 @@ pub record Sibling (i j : ℕ) (d : Direction) (b c : Block) : Type 0 where
   pub same : (e : Direction) → ¬ (e ≡ d) → parameterOf c e ≡ parameterOf b e
 
 -- a direction's place in document 01's order
-abbrev pub placeOf : Direction → ℕ
-placeOf D.XY = 0
-placeOf D.M = 1
-placeOf D.N = 2
-placeOf D.Theta = 3
-placeOf D.T = 4
+abbrev pub placeOfBlock : Direction → ℕ
+placeOfBlock D.XY = 0
+placeOfBlock D.M = 1
+placeOfBlock D.N = 2
+placeOfBlock D.Theta = 3
+placeOfBlock D.T = 4
 
 -- the bytes that a sibling may take more along e, where d was cut, and in all
 abbrev more : Direction → Direction → ℕ
-more d e = cond (eqb (placeOf e) (placeOf d)) 14 0
+more d e = cond (eqb (placeOfBlock e) (placeOfBlock d)) 14 0
 
 abbrev pub extra : Direction → ℕ
 extra d = more d D.M + more d D.N + more d D.Theta + more d D.T
@@ -184,14 +184,6 @@ same-self integer p h =
     let l = and-left (le (p .lower) (p .upper)) (lt (p .lower) (inf false)) below in
     and-both (eq (p .lower) (p .lower)) (eq (p .upper) (p .upper)) (eq-self-low (p .lower) (p .upper) l) (eq-self-high (p .lower) (p .upper) l)
 
-recalled-is : (b : Block) (d : Direction) → recalled (remembered b) d ≡ parameterOf b d
-unfolding remembered
-recalled-is b D.XY = refl
-recalled-is b D.M = refl
-recalled-is b D.N = refl
-recalled-is b D.Theta = refl
-recalled-is b D.T = refl
-
 module _ (set i j : ℕ) (d : Direction) (p a c : Block) (s : Sibling i j d p a) (t : Sibling i j d p c) (h : CanQueue set c) where
   -- c's parameter along e, behind a: one that was not cut is the remembered one
   abbrev behind : Direction → ℕ
@@ -200,9 +192,9 @@ module _ (set i j : ℕ) (d : Direction) (p a c : Block) (s : Sibling i j d p a)
   parameter-behind : (e : Direction) → behind e ≤ cond (inUse set e) 2 0 + more d e
   parameter-behind e =
       let last = recalled (remembered a) e in
-      by-test (λ n. behind e ≤ cond (inUse set e) 2 0 + n) (eqb (placeOf e) (placeOf d)) 14 0
+      by-test (λ n. behind e ≤ cond (inUse set e) 2 0 + n) (eqb (placeOfBlock e) (placeOfBlock d)) 14 0
       (λ f. other-size (inUse set e) last (parameterOf c e))
-      (λ f. (let apart : ¬ (e ≡ d) = (λ g. eqb-false (placeOf e) (placeOf d) f (ap placeOf g)) in
+      (λ f. (let apart : ¬ (e ≡ d) = (λ g. eqb-false (placeOfBlock e) (placeOfBlock d) f (ap placeOfBlock g)) in
       let one : parameterOf c e ≡ last = t .same e apart ∙ sym (s .same e apart) ∙ sym (recalled-is a e) in
       let legal = same-self (isInteger e) (parameterOf c e) (fine-legal (inUse set e) (isInteger e) (parameterOf c e) (h .fine e)) in
       omega (arith, again-size (inUse set e) last (parameterOf c e) one legal)))
@@ -232,14 +224,14 @@ unfolding queueCodes
 codes-cons set last b q = length-append (encode set last b) (queueCodes set (remembered b) q)
 
 module _ (set i j : ℕ) (d : Direction) (p : Block) where
-  codes-behind : (q : List Block) (a : Block) → Sibling i j d p a → Each (Sibling i j d p) q → Each (CanQueue set) q
+  codes-behind : (q : List Block) (a : Block) → Sibling i j d p a → Every (Sibling i j d p) q → Every (CanQueue set) q
       → length (queueCodes set (remembered a) q) ≤ length q * (5 + 2 * parameterCount set + extra d)
   codes-behind [] a s e f = unfold queueCodes in omega arith
   codes-behind (c ∷ q) a s e f =
       omega (arith, codes-cons set (remembered a) c q, code-behind set i j d p a c s (e .0) (f .0), codes-behind q c (e .0) (e .1) (f .1))
 
   -- the first is coded like any block, the others behind it in fewer bytes
-  pub siblings-few : (c : Block) (q : List Block) (last : Last) → Known47 last → Each (Sibling i j d p) (c ∷ q) → Each (CanQueue set) (c ∷ q)
+  pub siblings-few : (c : Block) (q : List Block) (last : Last) → Known47 last → Every (Sibling i j d p) (c ∷ q) → Every (CanQueue set) (c ∷ q)
       → length (queueCodes set last (c ∷ q)) ≤ 17 + 16 * parameterCount set + length q * (5 + 2 * parameterCount set + extra d)
   siblings-few c q last k e f =
       omega (arith, codes-cons set last c q, code-most set last c k (f .0), codes-behind q c (e .0) (e .1) (f .1))

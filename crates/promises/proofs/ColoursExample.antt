@@ -10,8 +10,8 @@ use native.Mathlib.Omega.{arith}
 use lib.Dec.{T, leb, ltb, lit<}
 use borrow.Author.Tests.{ltb-true}
 use Rattle.base.proofs.Test.{T→≡, and-left, and-right}
-use Rattle.theory.specs.Lists.{Every}
-use Rattle.theory.specs.Colours.{Question, HasSolution, Holds, NoneIn, saidFalse, saidTrue, denied, marked, OneInEach, turn, FalseRight, MarkRight, DecidedBelow}
+use Rattle.theory.specs.Colours.{Question, HasSolution, Holds, NoneIn, saidFalse, saidTrue, denied, marked, OneInEach, judgement, FalseRight}
+use Rattle.theory.specs.Colours.{MarkRight, DecidedBelow}
 use Rattle.theory.specs.Levels.{sumTo, placesAlong}
 use Rattle.theory.specs.Shapes.{beginsIn, coversAlong, coversPixel}
 use Rattle.theory.specs.Positions.{AtMost, exactEdge, LiesBetween}
@@ -28,18 +28,18 @@ use Rattle.image.specs.Painting.{painted, heldCells, everyOf}
 use Rattle.queue.specs.Directions.{usedOf, directions, directionAt}
 use Rattle.queue.specs.Block.{remembered, startingLast}
 use Rattle.queue.specs.Decode.{levelRead, coordinateOf, coordinateRead, parameterRead, withX, placeRead, addParameter, addParameters, addDirection, decode}
-use Rattle.queue.specs.Ring.{olderRun, newerRun, content}
+use Rattle.queue.specs.Ring.{olderStretch, newerStretch, content}
 use Rattle.queue.specs.Queue.{taken, queueOf}
 use Rattle.decide.specs.Damage.{legalChosen, undamaged}
 use Rattle.decide.specs.Children.{quartersOf, keptInside, childrenXY, childrenOf}
-use Rattle.decide.specs.Verdict.{toldOutcome}
-use Rattle.plan.specs.Plan.{allTrue, outcomes, openCount}
+use Rattle.decide.specs.Verdict.{verdictOutcome}
+use Rattle.plan.specs.Plan.{allTrue, outcomes, incompleteCount}
 use Rattle.queue.specs.declared.Block.{Block}
 use Rattle.queue.specs.Block.{wholeLine}
 use Rattle.promises.specs.Chart.{Pixel, coversIn, queuedBlocks}
 use Rattle.implicit.specs.Setup.{leastFrom, startLevel}
 use Rattle.promises.specs.Steps.{readsIn}
-use Rattle.promises.specs.Turns.{saidBy, becomes, turnsWith, turnsOf, turnsTaking, EveryAnswer}
+use Rattle.promises.specs.Judgements.{saidBy, becomes, judgementsWith, judgementsOf, judgementsTaking, EveryAnswer}
 use Rattle.promises.specs.Mixes.{Mix, questionOf}
 use Rattle.promises.proofs.Example.{sheet, first, begun, second, stepped, at, left-true, right-false}
 use Rattle.promises.proofs.MixesExact.{exactly}
@@ -66,10 +66,14 @@ child i = record {
 }
 
 -- 80 marks the left one, 00 denies the right one
-turns-are : turnsTaking (sheet .chosen) first (128 ∷ 0 ∷ []) (queuedBlocks first)
-    ≡ turn (child 0) saidTrue marked ∷ turn (child 1) saidFalse denied ∷ []
-unfolding turnsTaking turnsOf turnsWith becomes saidBy queuedBlocks queueOf legalChosen legalInterval wholeBound zeroAs putInterval startingLast remembered taken content olderRun newerRun decode placeRead withX coordinateRead coordinateOf readSmall readBehind levelRead addParameters addParameter parameterRead addDirection undamaged inRange inside places pixel rectangleOf holdsCell heldCells everyOf isMarked meaningOf cellCode directions usedOf directionAt childrenOf childrenXY keptInside quartersOf outcomes allTrue toldOutcome openCount painted ofLittleEndian littleEndian le trailingZeros
-turns-are = refl
+judgements-are : judgementsTaking (sheet .chosen) first (128 ∷ 0 ∷ []) (queuedBlocks first)
+    ≡ judgement (child 0) saidTrue marked ∷ judgement (child 1) saidFalse denied ∷ []
+unfolding judgementsTaking judgementsOf judgementsWith becomes saidBy queuedBlocks queueOf legalChosen legalInterval wholeBound zeroAs
+    putInterval startingLast remembered taken content olderStretch newerStretch decode placeRead withX coordinateRead coordinateOf readSmall
+    readBehind levelRead addParameters addParameter parameterRead addDirection undamaged inRange inside places pixel rectangleOf holdsCell
+    heldCells everyOf isMarked meaningOf cellCode directions usedOf directionAt childrenOf childrenXY keptInside quartersOf outcomes allTrue
+    verdictOutcome incompleteCount painted ofLittleEndian littleEndian le trailingZeros
+judgements-are = refl
 
 -- the right one begins one pixel from the edge, so it holds no point that near
 right-none : NoneIn (coversIn (sheet .chosen)) asked (child 1)
@@ -77,8 +81,8 @@ unfolding NoneIn Holds LiesBetween AtMost exactEdge
 right-none a q given lies holds near = let l = holds .0 .0 .0 .0 in omega (arith, l, near, a .x .den-pos)
 
 answers-right : EveryAnswer (sheet .chosen) (FalseRight (coversIn (sheet .chosen)) asked) stepped
-unfolding EveryAnswer stepped Every FalseRight
-answers-right = (tt, rw turns-are ((λ looked e. (let z : _≡_ {A = ℕ} 0 1 = cc in absurd (omega arith))), ((λ looked e. right-none), tt)))
+unfolding EveryAnswer stepped FalseRight
+answers-right = (tt, rw judgements-are ((λ looked e. (let z : _≡_ {A = ℕ} 0 1 = cc in absurd (omega arith))), ((λ looked e. right-none), tt)))
 
 -- SO THE WHITE PIXEL HOLDS NONE
 pub white : ¬ HasSolution asked (at 1 (lit< tt))
@@ -100,8 +104,8 @@ left-one q c =
     (corner, corner-given, ((omega arith, omega arith), (omega arith, omega arith)), omega arith)
 
 marks-right : EveryAnswer (sheet .chosen) (MarkRight (coversIn (sheet .chosen)) asked) stepped
-unfolding EveryAnswer stepped Every MarkRight
-marks-right = (tt, rw turns-are ((λ looked e. left-one), ((λ looked e. (let z : _≡_ {A = ℕ} 0 1 = cc in absurd (omega arith))), tt)))
+unfolding EveryAnswer stepped MarkRight
+marks-right = (tt, rw judgements-are ((λ looked e. left-one), ((λ looked e. (let z : _≡_ {A = ℕ} 0 1 = cc in absurd (omega arith))), tt)))
 
 -- AND THE BLACK ONE HOLDS ONE
 pub black : HasSolution asked (at 0 (lit< tt))
@@ -109,8 +113,8 @@ black = true-means-yes exactly Near sheet begun stepped marks-right (at 0 (lit< 
 
 -- ---- both children lie on a pixel's level and were decided, and one step is the customer's sum of 2 by 1
 answers-decided : EveryAnswer (sheet .chosen) (DecidedBelow (λ b. b .x .rank) 48) stepped
-unfolding EveryAnswer stepped Every DecidedBelow
-answers-decided = (tt, rw turns-are ((λ looked low e. (let z : _≡_ {A = ℕ} 0 1 = cc in omega arith)), ((λ looked low e. (let z : _≡_ {A = ℕ} 0 1 = cc in omega arith)), tt)))
+unfolding EveryAnswer stepped DecidedBelow
+answers-decided = (tt, rw judgements-are ((λ looked low e. (let z : _≡_ {A = ℕ} 0 1 = cc in omega arith)), ((λ looked low e. (let z : _≡_ {A = ℕ} 0 1 = cc in omega arith)), tt)))
 
 -- SO NO PIXEL IS GREY
 pub none-grey : (q : Pixel (sheet .chosen)) → ¬ (readsIn (sheet .chosen) second q ≡ R.Uncertain)

@@ -5,10 +5,10 @@ use mathlib.Core.Logic.{_⊎_, inl, inr, ⊎-elim}
 use mathlib.Core.Bool.{false}
 use mathlib.Core.List.{List, [], _∷_}
 use Prim.Native.Nat.{ℕ}
-use Rattle.theory.specs.Lists.{Every}
+use Rattle.base.specs.Lists.{Every}
 use Rattle.theory.specs.Cells.{readsTrue, readsFalse}
 use Rattle.theory.specs.Runs.{EveryStep}
-use Rattle.theory.specs.Colours.{Question, HasSolution, HoldsAll, Turn, Judged, EveryTurn, FalseRight, MarkRight}
+use Rattle.theory.specs.Colours.{Question, HasSolution, HoldsAll, Judgement, StepByVerdicts, EveryJudgement, FalseRight, MarkRight}
 use Rattle.theory.proofs.Theorems as Theory
 use Rattle.image.specs.declared.Reading.the-variants as R
 use Rattle.image.specs.Cell.{meanings}
@@ -16,16 +16,18 @@ use Rattle.queue.specs.declared.Block.{Block}
 use Rattle.decide.specs.declared.Chosen.{Chosen}
 use Rattle.plan.proofs.ChildLaws.{Fine}
 use Rattle.implicit.specs.Step.{World}
-use Rattle.promises.specs.Chart.{Pixel, coversIn, queuedBlocks, snapshotOf}
+use Rattle.promises.specs.Chart.{Pixel, coversIn, queuedBlocks}
 use Rattle.promises.specs.Steps.{Asked, BegunAs, Steps, no-steps, then-step, then-move, readsIn, StandsGivenUp}
-use Rattle.promises.specs.Turns.{turnsOf, turnsTaking, EveryAnswer}
+use Rattle.promises.specs.Judgements.{judgementsOf, judgementsTaking, EveryAnswer}
 use Rattle.promises.specs.Mixes.{Measures, Mix, questionOf}
 use Rattle.promises.specs.Sentences.{WhiteMeansNo}
+use Rattle.promises.proofs.Snapshots.{snapshotOf}
 use Rattle.promises.proofs.Along.{along-both}
 use Rattle.promises.proofs.Invariant.{Keeps, keeps-queue}
-use Rattle.promises.proofs.Linked.{Reached, Linked, linked-events, begun-passed, begun-reached, begun-accepted, begun-queue, steps-reached, step-linked, move-same, StepsFrom, in-theory, over-move}
+use Rattle.promises.proofs.Linked.{Reached, Linked, linked-events, begun-passed, begun-reached, begun-accepted, begun-queue, steps-reached}
+use Rattle.promises.proofs.Linked.{step-linked, move-same, StepsFrom, in-theory, over-move}
 use Rattle.promises.proofs.Demand3.{reads-both, stands}
-use Rattle.promises.proofs.Turns.{cuttingOf, judged-by-turns}
+use Rattle.promises.proofs.Judgements.{cuttingOf, step-by-judgements}
 use Rattle.promises.proofs.MixesSplit.{real-cutting}
 use Rattle.promises.proofs.MixesFirst.{first-hold}
 
@@ -40,32 +42,35 @@ module _ (p : Chosen) where
       rw (← h .chosen) (k .holds .all .0 .fine)
 
   unfoldable pub judged-linked : (v v′ : World) (vs : List ℕ) → Reached p v → (l : Linked p v vs v′)
-      → Judged (coversIn p) (cuttingOf p) false (snapshotOf p v) (snapshotOf p v′) (l .step)
+      → StepByVerdicts (coversIn p) (cuttingOf p) false (snapshotOf p v) (snapshotOf p v′) (l .step)
   judged-linked v v′ vs h l =
-      judged-by-turns p (l .step .front) (meanings (v .cells)) vs (l .front-sound) (l .enough) (front-fine v v′ vs h l) (l .verdicts) (snapshotOf p v) (snapshotOf p v′) (l .step) refl
+      step-by-judgements p (l .step .front) (meanings (v .cells)) vs (l .front-sound) (l .enough) (front-fine v v′ vs h l) (l .verdicts) (snapshotOf p v) (snapshotOf p v′) (l .step) refl
       (λ q. refl) (linked-events p v vs v′ l)
 
   module _ {w : World} (h : Reached p w) where
-    unfoldable pub every-judged : {n : ℕ} {w′ : World} (r : Steps n w w′) → EveryStep (coversIn p) false (Judged (coversIn p) (cuttingOf p) false) (in-theory p h r)
+    unfoldable pub every-judged : {n : ℕ} {w′ : World} (r : Steps n w w′)
+        → EveryStep (coversIn p) false (StepByVerdicts (coversIn p) (cuttingOf p) false) (in-theory p h r)
     unfolding EveryStep in-theory
     every-judged no-steps = tt
     every-judged (then-step {w′ = w′} {w″ = w″} r vs evals bytes e) =
         (every-judged r, judged-linked w′ w″ vs (steps-reached p h r) (step-linked p w′ (steps-reached p h r) vs w″ evals bytes e))
-    every-judged (then-move r m) = over-move p h r m (λ s x. EveryStep (coversIn p) false (Judged (coversIn p) (cuttingOf p) false) x) (every-judged r)
+    every-judged (then-move r m) = over-move p h r m (λ s x. EveryStep (coversIn p) false (StepByVerdicts (coversIn p) (cuttingOf p) false) x) (every-judged r)
 
-    -- what is said of each answer is said of each turn
-    pub answers-turns : (P : Turn Block → Type 0) {n : ℕ} {w′ : World} (r : Steps n w w′) → EveryAnswer p P r → EveryTurn (coversIn p) (cuttingOf p) false P (in-theory p h r) (every-judged r)
-    unfolding EveryAnswer EveryTurn in-theory over-move every-judged judged-linked judged-by-turns turnsTaking
-    answers-turns P no-steps a = tt
-    answers-turns P (then-step {w′ = w′} {w″ = w″} r vs evals bytes e) a =
-        (answers-turns P r (a .0), one (step-linked p w′ (steps-reached p h r) vs w″ evals bytes e) (a .1))
+    -- what is said of each answer is said of each judgement
+    pub answers-judgements : (P : Judgement Block → Type 0) {n : ℕ} {w′ : World} (r : Steps n w w′) → EveryAnswer p P r
+        → EveryJudgement (coversIn p) (cuttingOf p) false P (in-theory p h r) (every-judged r)
+    unfolding EveryAnswer EveryJudgement in-theory over-move every-judged judged-linked step-by-judgements judgementsTaking
+    answers-judgements P no-steps a = tt
+    answers-judgements P (then-step {w′ = w′} {w″ = w″} r vs evals bytes e) a =
+        (answers-judgements P r (a .0), one (step-linked p w′ (steps-reached p h r) vs w″ evals bytes e) (a .1))
       where
-        one : (l : Linked p w′ vs w″) → Every P (turnsTaking p w′ vs (queuedBlocks w′)) → Every P (turnsOf p (l .step .front) (meanings (w′ .cells)) vs)
-        one l k = subst (λ (q : List Block). Every P (turnsTaking p w′ vs q)) (l .step .at-front) k
-    answers-turns P (then-move {n = n} {w′ = w′} {w″ = w″} r m) a =
-        along-both (StepsFrom p n (snapshotOf p w)) (λ s x. EveryStep (coversIn p) false (Judged (coversIn p) (cuttingOf p) false) x)
+        one : (l : Linked p w′ vs w″) → Every P (judgementsTaking p w′ vs (queuedBlocks w′))
+            → Every P (judgementsOf p (l .step .front) (meanings (w′ .cells)) vs)
+        one l k = subst (λ (q : List Block). Every P (judgementsTaking p w′ vs q)) (l .step .at-front) k
+    answers-judgements P (then-move {n = n} {w′ = w′} {w″ = w″} r m) a =
+        along-both (StepsFrom p n (snapshotOf p w)) (λ s x. EveryStep (coversIn p) false (StepByVerdicts (coversIn p) (cuttingOf p) false) x)
         (move-same p w′ (steps-reached p h r) w″ m) (in-theory p h r) (every-judged r)
-        (λ s x j. EveryTurn (coversIn p) (cuttingOf p) false P x j) (answers-turns P r a)
+        (λ s x j. EveryJudgement (coversIn p) (cuttingOf p) false P x j) (answers-judgements P r a)
 
 -- ---- the first blocks hold every mix that is given
 
@@ -89,7 +94,7 @@ module _ (M : Measures) (Solves : Mix M → Type 0) (a : Asked) {w₀ : World} (
   white-none n w r right q e =
       let h = begun-reached a w₀ z in
       Theory.white-means-no (coversIn p) (cuttingOf p) Q false (real-cutting M p (a .ranges) Solves) (begun-accepted a w₀ z) holds-all (in-theory p h r) (every-judged p h r)
-      (answers-turns p h (FalseRight (coversIn p) Q) r right) q (reads-both p w q readsFalse .0 e)
+      (answers-judgements p h (FalseRight (coversIn p) Q) r right) q (reads-both p w q readsFalse .0 e)
 
   -- a pixel that reads True holds one
   pub true-one : {n : ℕ} {w : World} (r : Steps n w₀ w) → EveryAnswer p (MarkRight (coversIn p) Q) r
@@ -97,7 +102,7 @@ module _ (M : Measures) (Solves : Mix M → Type 0) (a : Asked) {w₀ : World} (
   true-one {w = w} r right q e =
       let h = begun-reached a w₀ z in
       Theory.true-means-yes (coversIn p) (cuttingOf p) Q false (begun-accepted a w₀ z) (in-theory p h r) (every-judged p h r)
-      (answers-turns p h (MarkRight (coversIn p) Q) r right) q (reads-both p w q readsTrue .0 e)
+      (answers-judgements p h (MarkRight (coversIn p) Q) r right) q (reads-both p w q readsTrue .0 e)
 
   -- and with an empty queue each reads one or the other, or is given up
   pub all-decided : {n : ℕ} {w : World} (r : Steps n w₀ w) → EveryAnswer p (FalseRight (coversIn p) Q) r → EveryAnswer p (MarkRight (coversIn p) Q) r
@@ -107,4 +112,4 @@ module _ (M : Measures) (Solves : Mix M → Type 0) (a : Asked) {w₀ : World} (
       let h = begun-reached a w₀ z in
       ⊎-elim (λ k. inl (reads-both p w q readsTrue .1 (k .0), k .1)) (λ k. inr (reads-both p w q readsFalse .1 (k .0), k .1))
       (Theory.done-decides (coversIn p) (cuttingOf p) Q false (real-cutting M p (a .ranges) Solves) (begun-accepted a w₀ z) holds-all (in-theory p h r) (every-judged p h r)
-      (answers-turns p h (FalseRight (coversIn p) Q) r right) (answers-turns p h (MarkRight (coversIn p) Q) r marks) none q (λ s. kept (stands a z r q .1 s)))
+      (answers-judgements p h (FalseRight (coversIn p) Q) r right) (answers-judgements p h (MarkRight (coversIn p) Q) r marks) none q (λ s. kept (stands a z r q .1 s)))

@@ -5,7 +5,8 @@ use Rattle.theory.specs.Shapes.{beginsIn, coversAlong, coversPixel}
 use Rattle.theory.specs.Runs as Runs
 use Rattle.base.specs.Event.{Event, marks, queues, givesUp}
 use mathlib.Core.List.{List, [], _∷_}
-use Rattle.coordinate.specs.Axis.{pixel, covers1}
+use Rattle.coordinate.specs.Axis.{pixel}
+use Rattle.coordinate.proofs.Covering.{covers1}
 use Rattle.queue.specs.declared.Block.{Block}
 use Rattle.decide.specs.declared.Chosen.{Chosen}
 use Rattle.plan.proofs.CoverLaws.{covers, Narrower}
@@ -26,7 +27,8 @@ unfolding Runs.Narrower
 narrower-as p b c e f n q t = ≡→T (covers-as p b q e ∙ n (q .x) (q .y) (sym (covers-as p c q f) ∙ T→≡ (coversIn p c q) t))
 
 -- of all that a step marks or queues
-pub all-narrower : (p : Chosen) (b : Block) (es : List (Event Block)) → Level b → EachEvent Level es → EachEvent (Narrower b) es → Runs.AllNarrower (coversIn p) b es
+pub all-narrower : (p : Chosen) (b : Block) (es : List (Event Block)) → Level b → EachEvent Level es → EachEvent (Narrower b) es
+    → Runs.AllNarrower (coversIn p) b es
 unfolding Runs.AllNarrower
 all-narrower p b [] e f n = tt
 all-narrower p b (marks c ∷ es) e f n = (narrower-as p b c e (f .0) (n .0), all-narrower p b es e (f .1) (n .1))

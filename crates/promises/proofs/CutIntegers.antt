@@ -12,18 +12,19 @@ use lib.Signed.{leZ, _≤ℤ_, _<ℤ_, leZ-yes, ltZ-yes, <ℤ-irrefl}
 use lib.Ieee.{Float, nan, inf, fin, le, lt, eq, ne}
 use lib.Ieee.Scale.{finite}
 use Rattle.base.proofs.Test.{≡→T, cases, by-test, and-left, and-right, and-both}
-use Rattle.theory.specs.Lists.{Some}
-use Rattle.theory.specs.Cuts.{End, minusInf, plusInf, Span, span, InSpan, FromEnd, UpToEnd, OverEnd, UnderEnd, Owes, hasWidth1, hasWidth2, withoutWidth1, nextEnd, middleIfWidth2, laterPieces, laterIntegers}
+use Rattle.theory.specs.Cuts.{End, minusInf, plusInf, Span, span, InSpan, FromEnd, UpToEnd, OverEnd, UnderEnd, Owes, hasWidth1, hasWidth2}
+use Rattle.theory.specs.Cuts.{withoutWidth1, nextEnd, middleIfWidth2, laterPieces, laterIntegers}
 use Rattle.theory.specs.Cuts as Cut
 use Rattle.theory.proofs.IntegerLaws.{compare, equal-or-less, less-trans, less-next, none-between, same-integer}
-use Rattle.theory.proofs.ListLaws.{some-left, some-right}
+use Rattle.base.specs.Lists.{Some}
+use Rattle.base.proofs.ListLaws.{some-left, some-right}
 use Rattle.theory.proofs.Theorems.{later-integer-loses-nothing}
 use Rattle.interval.specs.declared.Interval.{Interval}
 use Rattle.interval.specs.Bounds.{InFormat, legalInterval}
 use Rattle.interval.specs.Kinds.{midpointOf, cutPointOf}
 use Rattle.interval.specs.Cuts.{widthIs, subdivisible, pairOf, spanOf, threeAt, narrowed, thinned, firstCut, laterCut}
 use Rattle.interval.proofs.Legality.{legal-order, whole-ends}
-use Rattle.interval.proofs.Sameness.{eq-turn}
+use Rattle.interval.proofs.Sameness.{eq-swap}
 use Rattle.interval.proofs.ProperPieces.{Proper}
 use Rattle.interval.proofs.CutPoint.{Divides, half-divides, cut-good}
 use Rattle.interval.proofs.Middles.{middle-half, middle-whole, middle-rounded}
@@ -140,7 +141,7 @@ module _ (v : Interval) (f : InFormat v) (h : legalInterval v true ≡ true) (w 
   under-high : wholeOf mid <ℤ wholeOf (v .upper)
   under-high =
       ltZ-yes (≡→T (sym (whole-lt mid (v .upper) mid-whole (high-whole v f h high-number))
-      ∙ strictly mid (v .upper) (mid-divides .high) (eq-turn mid (v .upper) ∙ not-equal (v .upper) mid (apart .1))))
+      ∙ strictly mid (v .upper) (mid-divides .high) (eq-swap mid (v .upper) ∙ not-equal (v .upper) mid (apart .1))))
 
   middle-is : wholeOf mid ≡ sucℤ (wholeOf (v .lower))
   middle-is =
@@ -209,14 +210,16 @@ cut-inside v f h =
     (over-end (v .lower) c (d .number) (d .low) (low-whole v f h) w, under-end c (v .upper) (d .number) (d .high) (high-whole v f h) w)
 
 -- what one of the three pieces holds, what is left of them holds
-three-hold : (l p r : Interval) (i : ℤ) → Proper true l → Proper true r → Some (λ u. Owes (integers u) i) (l ∷ p ∷ r ∷ []) → Some (λ u. Owes (integers u) i) (thinned l ++ (p ∷ thinned r))
+three-hold : (l p r : Interval) (i : ℤ) → Proper true l → Proper true r → Some (λ u. Owes (integers u) i) (l ∷ p ∷ r ∷ [])
+    → Some (λ u. Owes (integers u) i) (thinned l ++ (p ∷ thinned r))
 unfolding Some
 three-hold l p r i a b (inl k) = some-left (λ u. Owes (integers u) i) (thinned l) (p ∷ thinned r) (thinned-holds l a i k)
 three-hold l p r i a b (inr (inl k)) = some-right (λ u. Owes (integers u) i) (thinned l) (p ∷ thinned r) (inl k)
 three-hold l p r i a b (inr (inr (inl k))) = some-right (λ u. Owes (integers u) i) (thinned l) (p ∷ thinned r) (inr (thinned-holds r b i k))
 three-hold l p r i a b (inr (inr (inr k))) = absurd k
 
-pub later-integer-holds : (v : Interval) → InFormat v → legalInterval v true ≡ true → (i : ℤ) → Owes (integers v) i → Some (λ u. Owes (integers u) i) (laterCut v true)
+pub later-integer-holds : (v : Interval) → InFormat v → legalInterval v true ≡ true → (i : ℤ) → Owes (integers v) i
+    → Some (λ u. Owes (integers u) i) (laterCut v true)
 later-integer-holds v f h i o =
     let c = cutPointOf v true in
     let t = three-proper v true f h in
@@ -230,7 +233,8 @@ later-integer-holds v f h i o =
 -- ---- the first cut
 
 -- an integer of an interval is one of its ends, or lies strictly between
-where-inside : (a b : End ℤ) (i : ℤ) → FromEnd (λ j k. j ≤ℤ k) a i → UpToEnd (λ j k. j ≤ℤ k) i b → (a ≡ Cut.finite i) ⊎ ((b ≡ Cut.finite i) ⊎ (OverEnd a i × UnderEnd i b))
+where-inside : (a b : End ℤ) (i : ℤ) → FromEnd (λ j k. j ≤ℤ k) a i → UpToEnd (λ j k. j ≤ℤ k) i b
+    → (a ≡ Cut.finite i) ⊎ ((b ≡ Cut.finite i) ⊎ (OverEnd a i × UnderEnd i b))
 unfolding FromEnd UpToEnd OverEnd UnderEnd
 where-inside a b i l u = go (low a l) (high b u)
   where
@@ -268,13 +272,14 @@ unfolding le
 equal-ends x y a b e =
     same-integer (wholeOf x) (wholeOf y)
     (≡→T (and-both (leZ (wholeOf x) (wholeOf y)) (leZ (wholeOf y) (wholeOf x))
-    (sym (whole-le x y a b) ∙ either (lt x y) (eq x y) e) (sym (whole-le y x b a) ∙ either (lt y x) (eq y x) (eq-turn y x ∙ e))))
+    (sym (whole-le x y a b) ∙ either (lt x y) (eq x y) e) (sym (whole-le y x b a) ∙ either (lt y x) (eq y x) (eq-swap y x ∙ e))))
   where
     either : (s t : Bool) → t ≡ true → s || t ≡ true
     either true t h = refl
     either false t h = h
 
-pub first-integer-holds : (v : Interval) → InFormat v → legalInterval v true ≡ true → (i : ℤ) → InSpan (λ j k. j ≤ℤ k) (integers v) i → Some (λ u. Owes (integers u) i) (firstCut v true)
+pub first-integer-holds : (v : Interval) → InFormat v → legalInterval v true ≡ true → (i : ℤ) → InSpan (λ j k. j ≤ℤ k) (integers v) i
+    → Some (λ u. Owes (integers u) i) (firstCut v true)
 unfolding InSpan OverEnd UnderEnd
 first-integer-holds v f h i o =
     let a = v .lower in
@@ -284,8 +289,8 @@ first-integer-holds v f h i o =
     (λ g. cases (finite b) (λ k. both g k at) (λ k. rw (first-from v true h g k) (from-low k at)))
     (λ g. cases (finite b) (λ k. rw (first-up-to v true h g k) (up-high g at)) (λ k. rw (first-whole v true h g k) (whole-line g k at)))
   where
-    Place : Type 0
-    Place = (endBy wholeOf (v .lower) ≡ Cut.finite i) ⊎ ((endBy wholeOf (v .upper) ≡ Cut.finite i) ⊎ (OverEnd (endBy wholeOf (v .lower)) i × UnderEnd i (endBy wholeOf (v .upper))))
+    AtEndOrBetween : Type 0
+    AtEndOrBetween = (endBy wholeOf (v .lower) ≡ Cut.finite i) ⊎ ((endBy wholeOf (v .upper) ≡ Cut.finite i) ⊎ (OverEnd (endBy wholeOf (v .lower)) i × UnderEnd i (endBy wholeOf (v .upper))))
 
     Held : List Interval → Type 0
     Held l = Some (λ u. Owes (integers u) i) l
@@ -299,22 +304,23 @@ first-integer-holds v f h i o =
     not-high : {P : Type 0} → finite (v .upper) ≡ false → endBy wholeOf (v .upper) ≡ Cut.finite i → P
     not-high g e = absurd (true≢false (sym (ends-number (v .upper) i e) ∙ g))
 
-    whole-line : finite (v .lower) ≡ false → finite (v .upper) ≡ false → Place → Held (spanOf (v .lower) (v .upper) ∷ [])
+    whole-line : finite (v .lower) ≡ false → finite (v .upper) ≡ false → AtEndOrBetween → Held (spanOf (v .lower) (v .upper) ∷ [])
     whole-line g k (inl e) = not-low g e
     whole-line g k (inr (inl e)) = not-high k e
     whole-line g k (inr (inr w)) = unfold Some in inl (inner w)
 
-    up-high : finite (v .lower) ≡ false → Place → Held (spanOf (v .lower) (v .upper) ∷ spanOf (v .upper) (v .upper) ∷ [])
+    up-high : finite (v .lower) ≡ false → AtEndOrBetween → Held (spanOf (v .lower) (v .upper) ∷ spanOf (v .upper) (v .upper) ∷ [])
     up-high g (inl e) = not-low g e
     up-high g (inr (inl e)) = unfold Some in inr (inl (point-holds (v .upper) i e))
     up-high g (inr (inr w)) = unfold Some in inl (inner w)
 
-    from-low : finite (v .upper) ≡ false → Place → Held (spanOf (v .lower) (v .lower) ∷ spanOf (v .lower) (v .upper) ∷ [])
+    from-low : finite (v .upper) ≡ false → AtEndOrBetween → Held (spanOf (v .lower) (v .lower) ∷ spanOf (v .lower) (v .upper) ∷ [])
     from-low k (inl e) = unfold Some in inl (point-holds (v .lower) i e)
     from-low k (inr (inl e)) = not-high k e
     from-low k (inr (inr w)) = unfold Some in inr (inl (inner w))
 
-    one : finite (v .lower) ≡ true → finite (v .upper) ≡ true → wholeOf (v .lower) ≡ wholeOf (v .upper) → Place → Held (spanOf (v .lower) (v .lower) ∷ [])
+    one : finite (v .lower) ≡ true → finite (v .upper) ≡ true → wholeOf (v .lower) ≡ wholeOf (v .upper) → AtEndOrBetween
+        → Held (spanOf (v .lower) (v .lower) ∷ [])
     one g k s (inl e) = unfold Some in inl (point-holds (v .lower) i e)
     one g k s (inr (inl e)) =
         unfold Some in inl (point-holds (v .lower) i (finite-end wholeOf (v .lower) (≡→T g) ∙ ap Cut.finite s ∙ sym (finite-end wholeOf (v .upper) (≡→T k)) ∙ e))
@@ -323,19 +329,19 @@ first-integer-holds v f h i o =
         let u : UnderEnd i (Cut.finite (wholeOf (v .lower))) = rw (finite-end wholeOf (v .upper) (≡→T k), ← s) at (w .1) in
         absurd (<ℤ-irrefl (less-trans l u))
 
-    two : widthIs 1 v ≡ true → Place → Held (spanOf (v .lower) (v .lower) ∷ spanOf (v .upper) (v .upper) ∷ [])
+    two : widthIs 1 v ≡ true → AtEndOrBetween → Held (spanOf (v .lower) (v .lower) ∷ spanOf (v .upper) (v .upper) ∷ [])
     two s (inl e) = unfold Some in inl (point-holds (v .lower) i e)
     two s (inr (inl e)) = unfold Some in inr (inl (point-holds (v .upper) i e))
     two s (inr (inr w)) =
         let k : Owes (integers v) i = unfold Owes in inr w in
         absurd (one-holds-none (wholeOf (v .lower)) i (rw (spans-width 1 v f h s) at k))
 
-    three : Place → Held (spanOf (v .lower) (v .lower) ∷ spanOf (v .lower) (v .upper) ∷ spanOf (v .upper) (v .upper) ∷ [])
+    three : AtEndOrBetween → Held (spanOf (v .lower) (v .lower) ∷ spanOf (v .lower) (v .upper) ∷ spanOf (v .upper) (v .upper) ∷ [])
     three (inl e) = unfold Some in inl (point-holds (v .lower) i e)
     three (inr (inl e)) = unfold Some in inr (inr (inl (point-holds (v .upper) i e)))
     three (inr (inr w)) = unfold Some in inr (inl (inner w))
 
-    both : finite (v .lower) ≡ true → finite (v .upper) ≡ true → Place → Held (firstCut v true)
+    both : finite (v .lower) ≡ true → finite (v .upper) ≡ true → AtEndOrBetween → Held (firstCut v true)
     both g k at =
         cases (eq (v .lower) (v .upper))
         (λ e. rw (first-one v f h g k e) (one g k (equal-ends (v .lower) (v .upper) (low-whole v f h (≡→T g)) (high-whole v f h (≡→T k)) e) at))

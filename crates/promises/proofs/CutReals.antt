@@ -5,7 +5,7 @@ use mathlib.Core.Bool.{Bool, true, false}
 use lib.Ieee.{Float}
 use lib.Ieee.Scale.{finite}
 use Rattle.base.proofs.Test.{by-test}
-use Rattle.theory.specs.Lists.{Some}
+use Rattle.base.specs.Lists.{Some}
 use Rattle.theory.specs.Cuts.{InSpan}
 use Rattle.theory.proofs.Theorems.{later-real-loses-nothing}
 use Rattle.interval.specs.declared.Interval.{Interval}
@@ -28,7 +28,8 @@ module _ {N : Type 0} (Le : N → N → Type 0) (f : Float → N) (same : (t : B
       (by-test (λ l. Some (λ u. InSpan Le (spanBy f u) x) l) (finite (v .lower)) _ _ (λ e. inr (inl all)) (λ e. inl all))
 
   -- the pieces of a later one have the spans of a cut at a number
-  pub later-real-holds : InFormat v → ((a b : N) → Le a b ⊎ Le b a) → (x : N) → InSpan Le (spanBy f v) x → Some (λ u. InSpan Le (spanBy f u) x) (laterCut v false)
+  pub later-real-holds : InFormat v → ((a b : N) → Le a b ⊎ Le b a) → (x : N) → InSpan Le (spanBy f v) x
+      → Some (λ u. InSpan Le (spanBy f u) x) (laterCut v false)
   later-real-holds format total x h =
       let c = cutPointOf v false in
       rw (later-real v)

@@ -8,7 +8,7 @@ use Prim.Native.Nat.{zero, suc}
 use lib.Dec.{T}
 use lib.Ieee.{Float, nan, inf, fin}
 use lib.Ieee.Scale.{finite}
-use Rattle.theory.specs.Lists.{Some}
+use Rattle.base.specs.Lists.{Some}
 use Rattle.theory.specs.Cuts.{End, span, laterPieces}
 use Rattle.theory.specs.Cuts as Cut
 use Rattle.interval.specs.declared.Interval.{Interval}

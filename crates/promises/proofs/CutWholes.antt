@@ -7,7 +7,8 @@ use native.Mathlib.Omega.{arith}
 use native.Mathlib.Nat.{zero-mul, suc-mul, mul-one, mul-right-comm, mul-div-cancel, zero-div, eq-of-mul-eq-mul-right}
 use lib.Dec.{T, eqb, eqb→eq}
 use lib.Pow.{pow-pos}
-use lib.IntN.{ℤ, pos, negℤ, natAbs, _+ℤ_, _-ℤ_, _*ℤ_, +ℤ-sucℤ, sucℤ-*ℤ, +ℤ-assoc, +ℤ-comm, +ℤ-idr, +ℤ-negℤ-cancel, pos-+ℤ-pos, zero-*ℤ, pos-*ℤ-pos, negsuc-*ℤ-pos}
+use lib.IntN.{ℤ, pos, negℤ, natAbs, _+ℤ_, _-ℤ_, _*ℤ_, +ℤ-sucℤ, sucℤ-*ℤ, +ℤ-assoc, +ℤ-comm, +ℤ-idr, +ℤ-negℤ-cancel, pos-+ℤ-pos, zero-*ℤ, pos-*ℤ-pos}
+use lib.IntN.{negsuc-*ℤ-pos}
 use lib.Signed.{leZ, ltZ}
 use lib.Ieee.{Float, nan, inf, fin, binary64, up, down, le, lt, fits}
 use lib.Ieee.Exact.{HasValue}
@@ -96,7 +97,8 @@ times-further z (suc d) U =
 less-itself : (z : ℤ) (n : ℕ) → natAbs ((z +ℤ pos n) -ℤ z) ≡ n
 less-itself z n = ap (λ (w : ℤ). natAbs (w -ℤ z)) (+ℤ-comm z (pos n)) ∙ ap natAbs (+ℤ-negℤ-cancel (pos n) z)
 
-wide : (s t : Bool) (a b U k : ℕ) → 0 < U → T (leZ (signed s a) (signed t b)) → natAbs (signed t (b * U) -ℤ signed s (a * U)) ≡ k * U → signed t b ≡ signed s a +ℤ pos k
+wide : (s t : Bool) (a b U k : ℕ) → 0 < U → T (leZ (signed s a) (signed t b)) → natAbs (signed t (b * U) -ℤ signed s (a * U)) ≡ k * U
+    → signed t b ≡ signed s a +ℤ pos k
 wide s t a b U k h l e =
     let g = gap (signed s a) (signed t b) l in
     let d = g .0 in
@@ -107,7 +109,8 @@ wide s t a b U k h l e =
     g .1 ∙ ap (λ (j : ℕ). signed s a +ℤ pos j) m
 
 -- both ends of an interval that has a width are numbers, and the upper is so much further
-pub width-ends : (k : ℕ) (v : Interval) → widthIs k v ≡ true → T (finite (v .lower)) × T (finite (v .upper)) × (natAbs (inUnits (v .upper) -ℤ inUnits (v .lower)) ≡ k * 2 ^ 1074)
+pub width-ends : (k : ℕ) (v : Interval) → widthIs k v ≡ true
+    → T (finite (v .lower)) × T (finite (v .upper)) × (natAbs (inUnits (v .upper) -ℤ inUnits (v .lower)) ≡ k * 2 ^ 1074)
 unfolding widthIs
 width-ends k v e =
     let a = finite (v .lower) in

@@ -6,7 +6,7 @@ use mathlib.Core.List.{List, _++_}
 use Prim.Native.Nat.{ℕ, suc, _+_}
 use native.Mathlib.Nat.{zero-add}
 use lib.ListN.{length, drop}
-use Rattle.theory.specs.Cells.{isTrue, givenUp, PixelReading, readsTrue, readsFalse, standingReads}
+use Rattle.theory.specs.Cells.{markedTrue, givenUp, PixelReading, readsTrue, readsFalse, standingReads}
 use Rattle.theory.specs.Demand3.{pixelReads, NoneCovers}
 use Rattle.theory.proofs.Theorems as Theory
 use Rattle.image.specs.declared.Reading.the-variants as R
@@ -15,9 +15,10 @@ use Rattle.image.specs.Painting.{pixelCell}
 use Rattle.queue.specs.declared.Block.{Block}
 use Rattle.decide.specs.declared.Chosen.{Chosen}
 use Rattle.implicit.specs.Step.{World}
-use Rattle.promises.specs.Chart.{Pixel, coversIn, standingAt, queuedBlocks, snapshotOf}
+use Rattle.promises.specs.Chart.{Pixel, coversIn, queuedBlocks}
 use Rattle.promises.specs.Steps.{Asked, BegunAs, Steps, readsIn, NoneQueuedCovers, GivenUpIn, StandsGivenUp}
 use Rattle.promises.specs.Sentences.{FalseRule, FalseStays, LeavesAfter}
+use Rattle.promises.proofs.Snapshots.{standingAt, snapshotOf}
 use Rattle.promises.proofs.Standings.{shown, reads-as, shown-one, given-up-exactly}
 use Rattle.promises.proofs.CellsKept.{PixelsWhole}
 use Rattle.promises.proofs.Invariant.{keeps-queue}
@@ -35,7 +36,7 @@ pub reads-both : (p : Chosen) (w : World) (q : Pixel p) (r : PixelReading) → (
 reads-both p w q r = ((λ e. shown-one (pixelReads (snapshotOf p w) q) r (sym (reads-linked p w q) ∙ e)), (λ e. reads-linked p w q ∙ ap shown e))
 
 -- a cell that is True reads True
-true-reads : (p : Chosen) (w : World) (q : Pixel p) → standingAt p (meanings (w .cells)) q ≡ isTrue → readsIn p w q ≡ R.True
+true-reads : (p : Chosen) (w : World) (q : Pixel p) → standingAt p (meanings (w .cells)) q ≡ markedTrue → readsIn p w q ≡ R.True
 unfolding pixelReads standingReads
 true-reads p w q e = reads-both p w q readsTrue .1 (ap (standingReads (w .state .taken)) e)
 
@@ -63,7 +64,7 @@ module _ (a : Asked) {w₀ : World} (z : BegunAs a w₀) where
   pub left-behind : LeavesAfter a w₀
   left-behind d n w w′ r r′ k =
       let h = steps-reached (a .chosen) (begun-reached a w₀ z) r in
-      Theory.leaves (coversIn (a .chosen)) false d (in-theory (a .chosen) h r′) k
+      Theory.leaves-queue (coversIn (a .chosen)) false d (in-theory (a .chosen) h r′) k
       ∙ ap (λ (l : List Block). drop (suc d) (queuedBlocks w) ++ l) (queued-as (a .chosen) h r′)
 
   -- the steps are the blocks taken
@@ -77,7 +78,8 @@ module _ (a : Asked) {w₀ : World} (z : BegunAs a w₀) where
   waiting {w = w} r = let h = steps-reached (a .chosen) (begun-reached a w₀ z) r in rw (keeps-queue w (h .blocks) (h .keeps)) (h .keeps .count)
 
   -- no pixel's cell is damaged, so what stands in it is given up only where the cell says so
-  pub stands : {n : ℕ} {w : World} → Steps n w₀ w → (q : Pixel (a .chosen)) → StandsGivenUp (a .chosen) w q ↔ (standingAt (a .chosen) (meanings (w .cells)) q ≡ givenUp)
+  pub stands : {n : ℕ} {w : World} → Steps n w₀ w → (q : Pixel (a .chosen))
+      → StandsGivenUp (a .chosen) w q ↔ (standingAt (a .chosen) (meanings (w .cells)) q ≡ givenUp)
   unfolding standingAt
   stands {w = w} r q =
       let h = steps-reached (a .chosen) (begun-reached a w₀ z) r in

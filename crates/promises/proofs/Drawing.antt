@@ -12,7 +12,7 @@ use Rattle.decide.specs.declared.Chosen.{Chosen}
 use Rattle.implicit.specs.Record.{pixelCount}
 use Rattle.implicit.specs.Step.{World}
 use Rattle.implicit.specs.View.{pictureBytes, pictureLeft, pictureAnswer}
-use Rattle.implicit.specs.Answers.{drawnNumber}
+use Rattle.implicit.specs.Answers.{callNumber}
 use Rattle.implicit.proofs.ViewLaws.{picture-length, picture-byte}
 use Rattle.promises.specs.Chart.{Pixel}
 use Rattle.promises.specs.Steps.{readsIn}
@@ -26,7 +26,7 @@ byte-at p w e k x y a b = rw (← e) (picture-byte (w .state) (w .cells) x y k (
 
 -- and the buffer's
 pub drawn : (p : Chosen) (w : World) → Reached p w → (out : List ℕ) → pixelCount p ≤ length out → (q : Pixel p)
-    → (drawnNumber (pictureAnswer (w .state) (w .cells) (length out)) ≡ 0)
+    → (callNumber (pictureAnswer (w .state) (w .cells) (length out)) ≡ 0)
     × (getD (pictureLeft (w .state) (w .cells) out) (cellIndex (p .width) (p .height) (q .x) (q .y)) 0 ≡ byteOf (readsIn p w q))
 unfolding pictureLeft readsIn
 drawn p w h out room q =
@@ -34,7 +34,7 @@ drawn p w h out room q =
     let k : i < p .width * p .height = cell-below (p .width) (p .height) (q .x) (q .y) (q .x-in) (q .y-in) in
     let m : pixelCount (w .state .chosen) ≡ p .width * p .height = ap pixelCount (h .chosen) in
     let n = picture-length (w .state) (w .cells) (h .keeps .enough) in (
-      ap drawnNumber (picture-drawn w (h .blocks) (h .keeps) (length out) (rw (h .chosen) room)),
+      ap callNumber (picture-drawn w (h .blocks) (h .keeps) (length out) (rw (h .chosen) room)),
       List·getD-append (pictureBytes (w .state) (w .cells)) (drop (pixelCount (w .state .chosen)) out) 0 i (omega (arith, k, m, n))
           ∙ byte-at p w (h .chosen) (h .keeps .enough) (q .x) (q .y) (q .x-in) (q .y-in),
     )

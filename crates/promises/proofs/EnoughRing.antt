@@ -9,6 +9,8 @@ use lib.Dec.{leb}
 use lib.ListN.{length, take, drop}
 use borrow.Author.Tests.{le-leb}
 use Rattle.base.proofs.Test.{by-test}
+use Rattle.base.specs.Lists.{Every}
+use Rattle.base.proofs.ListLaws.{every-also}
 use Rattle.refusal.specs.declared.Refusal.{Refusal}
 use Rattle.refusal.specs.declared.Refusal.the-variants as R
 use Rattle.image.specs.Cell.{isGivenUp}
@@ -20,18 +22,17 @@ use Rattle.queue.proofs.RoundTrip.{CanQueue}
 use Rattle.decide.specs.declared.Chosen.{Chosen}
 use Rattle.decide.specs.Damage.{sound}
 use Rattle.decide.specs.Children.{childrenOf}
-use Rattle.plan.proofs.Each.{Each, each-also}
 use Rattle.plan.proofs.EventLaws.{queued-sound}
 use Rattle.implicit.specs.declared.state.State.{State}
 use Rattle.implicit.specs.declared.state.Ending.{Ending}
 use Rattle.implicit.specs.declared.state.Ending.the-variants as E
-use Rattle.implicit.specs.declared.state.Needed.the-variants as N
+use Rattle.implicit.specs.declared.state.NeededAnswer.the-variants as N
 use Rattle.implicit.specs.Record.{putLast, pixelCells, queueEmpty}
 use Rattle.implicit.specs.Room.{parameterCount, stepGrowth, enoughBytes, enoughRing}
 use Rattle.implicit.specs.Setup.{firstBytes, startRecord}
 use Rattle.implicit.specs.Step.{World, StepEnd, refused, finished, unless, outcomesOf, newBlocks, newBytes, worldLeft, judged}
 use Rattle.implicit.specs.Step.{stepWith, stepOf, tapeStepOf, stepAnswer}
-use Rattle.implicit.specs.Run.{RunEnd, endedAs, RunAnswer, notRun, hasRun, goneOn, emptyEnding, runFrom, runOf, runAnswer}
+use Rattle.implicit.specs.Run.{RunEnd, endedAs, RunResult, notRun, hasRun, goneOn, emptyEnding, runFrom, runOf, runAnswer}
 use Rattle.implicit.specs.Answers.{stepNumber, stopNumber, runStop}
 use Rattle.implicit.proofs.SetupLawsStart.{length-start}
 use Rattle.implicit.proofs.RecordLaws.{sound-record}
@@ -50,7 +51,7 @@ use Rattle.promises.proofs.Linked.{Reached, steps-reached, begun-by, be
 -- WHAT A STEP ADDS to the bytes used
 
 -- new blocks behind what is remembered take what a step adds, and what the code of the block that was taken had at least
-new-few : (set : ℕ) (b : Block) (last : Last) (q : List Block) → Siblings set b q → Each (CanQueue set) q → Known47 last
+new-few : (set : ℕ) (b : Block) (last : Last) (q : List Block) → Siblings set b q → Every (CanQueue set) q → Known47 last
     → length (queueCodes set last q) ≤ stepGrowth set + 5 + 2 * parameterCount set
 new-few set b last [] s f k = unfold queueCodes in omega arith
 new-few set b last (c ∷ q) s f k =
@@ -74,7 +75,7 @@ module _ (w : World) (c : Block) (rest : List Block) (k : Keeps w (c ∷ rest)) 
   queued vs =
       let s = sound-record (length (w .ring)) (w .state) (k .sound-record) .back in
       let all = queued-sound p c (block-sound w c rest k) (outcomesOf w c vs) (k .holds .all .0 .fine) in
-      let can = each-also (λ d. (sound p d ≡ true) × CanQueue (p .set) d) (CanQueue (p .set)) (λ d t. t .1) (newBlocks w c vs) all in
+      let can = every-also (λ d. (sound p d ≡ true) × CanQueue (p .set) d) (CanQueue (p .set)) (λ d t. t .1) (newBlocks w c vs) all in
       new-few (p .set) c (putLast (w .state .back)) (newBlocks w c vs) (queued-siblings p c (block-sound w c rest k) (outcomesOf w c vs)) can
       (known-put (w .state .back) (s .x, s .y))
 
@@ -114,7 +115,7 @@ module _ (p : Chosen) {w₀ : World} (h : Reached p w₀) where
       go [] k = let f = step-empty w k false vs in let z : _≡_ {A = ℕ} 0 1 = cc in absurd (omega arith)
       go (c ∷ rest) k =
           let t = took-front w c rest k vs left evals bytes e in
-          let u : left .state .used ≡ used′ w c rest k + length (newBytes w c vs) = ap (λ (v : World). v .state .used) (t .leaves) in
+          let u : left .state .used ≡ used′ w c rest k + length (newBytes w c vs) = ap (λ (v : World). v .state .used) (t .left-is) in
           let s : stepGrowth (w .state .chosen .set) ≡ stepGrowth (p .set) = ap (λ (o : Chosen). stepGrowth (o .set)) (r .chosen) in
           omega (arith, u, grows w c rest k vs, s)
 
@@ -180,7 +181,7 @@ module _ (p : Chosen) {w₀ : World} (h : Reached p w₀) where
           steps-enough p h n (m + e .steps) (e .world) both (omega (arith, early, same)) (omega (arith, room, same-ring all alone)) true rest
           (ap (λ (x : StepEnd). stepNumber (stepAnswer (e .world .state) x)) f ∙ k)
 
-      ran : (a : RunAnswer) → runOf budget w tape ≡ a → ¬ (runStop (runAnswer (w .state) a) ≡ 6)
+      ran : (a : RunResult) → runOf budget w tape ≡ a → ¬ (runStop (runAnswer (w .state) a) ≡ 6)
       ran (notRun why) a k = omega arith
       ran (hasRun e) a k = ended e a (e .ending) refl k
 

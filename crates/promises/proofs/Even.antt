@@ -6,10 +6,12 @@ use Prim.Native.Nat.{ℕ, _≤_}
 use lib.Dec.{T}
 use Rattle.base.proofs.Test.{≡→T, and-both}
 use Rattle.base.specs.Event.{Event, marks, queues, givesUp, queuedBy}
+use Rattle.base.specs.Lists.{Every}
+use Rattle.base.proofs.ListLaws.{every-also, every-append}
 use Rattle.theory.specs.Runs.{Snapshot, EveryStep}
 use Rattle.theory.specs.Demand3.{AllWhole, GivesUpAlike, WholePicture}
 use Rattle.theory.proofs.StandingLaws.{step-alike}
-use Rattle.coordinate.specs.Axis.{covers1}
+use Rattle.coordinate.proofs.Covering.{covers1}
 use Rattle.coordinate.proofs.CoverLaws.{root-covers}
 use Rattle.image.specs.Cell.{meanings}
 use Rattle.queue.specs.declared.Block.{Block}
@@ -21,7 +23,6 @@ use Rattle.decide.specs.declared.Chosen.{Chosen}
 use Rattle.decide.specs.Damage.{sound, directionOf}
 use Rattle.decide.specs.Children.{childrenCut, childrenAlong, childrenOf}
 use Rattle.plan.specs.Plan.{outcomes}
-use Rattle.plan.proofs.Each.{Each, each-also}
 use Rattle.plan.proofs.PlaceLaws.{InPlace, cut-in-place}
 use Rattle.plan.proofs.ChildLaws.{direction-in-use}
 use Rattle.plan.proofs.EventLaws.{EachEvent}
@@ -29,11 +30,13 @@ use Rattle.implicit.specs.Setup.{startLevel, firstBlocks}
 use Rattle.implicit.specs.Step.{World}
 use Rattle.implicit.proofs.SetupLawsLevel.{level-width, level-height}
 use Rattle.implicit.proofs.SetupLawsBlocks.{startCoordinate, FirstBlock, first-blocks}
-use Rattle.promises.specs.Chart.{Pixel, coversIn, standingAt, queuedBlocks, snapshotOf}
+use Rattle.promises.specs.Chart.{Pixel, coversIn, queuedBlocks}
 use Rattle.promises.specs.Steps.{Asked, BegunAs, Steps, no-steps, then-step, then-move}
+use Rattle.promises.proofs.Snapshots.{standingAt, snapshotOf}
 use Rattle.promises.proofs.Covering.{covers-as}
-use Rattle.promises.proofs.EventsEach.{each-append, queue-each, queued-each, events-each}
-use Rattle.promises.proofs.Linked.{Reached, Linked, linked-events, step-linked, move-same, steps-reached, in-theory, over-move, begun-passed, begun-queue, begun-accepted}
+use Rattle.promises.proofs.EventsEach.{queued-each, events-each}
+use Rattle.promises.proofs.Linked.{Reached, Linked, linked-events, step-linked, move-same, steps-reached, in-theory, over-move, begun-passed}
+use Rattle.promises.proofs.Linked.{begun-queue, begun-accepted}
 
 -- where the first blocks are
 pub record AtStart (p : Chosen) (b : Block) : Type 0 where
@@ -45,15 +48,15 @@ module _ (p : Chosen) (flat : inUse (p .set) D.XY ≡ false) where
   at-place : (b c : Block) → AtStart p b → InPlace b c → AtStart p c
   at-place b c h i = record { x = i .x ∙ h .x; y = i .y ∙ h .y }
 
-  along-start : (b : Block) → AtStart p b → (a : DirectionAt) → directionOf p b ≡ a → Each (AtStart p) (childrenAlong p b a)
+  along-start : (b : Block) → AtStart p b → (a : DirectionAt) → directionOf p b ≡ a → Every (AtStart p) (childrenAlong p b a)
   along-start b h (A.Along D.XY) e = absurd (true≢false (sym (direction-in-use p b D.XY e) ∙ flat))
-  along-start b h (A.Along D.M) e = each-also (InPlace b) (AtStart p) (λ c. at-place b c h) (childrenCut b D.M) (cut-in-place b D.M)
-  along-start b h (A.Along D.N) e = each-also (InPlace b) (AtStart p) (λ c. at-place b c h) (childrenCut b D.N) (cut-in-place b D.N)
-  along-start b h (A.Along D.Theta) e = each-also (InPlace b) (AtStart p) (λ c. at-place b c h) (childrenCut b D.Theta) (cut-in-place b D.Theta)
-  along-start b h (A.Along D.T) e = each-also (InPlace b) (AtStart p) (λ c. at-place b c h) (childrenCut b D.T) (cut-in-place b D.T)
+  along-start b h (A.Along D.M) e = every-also (InPlace b) (AtStart p) (λ c. at-place b c h) (childrenCut b D.M) (cut-in-place b D.M)
+  along-start b h (A.Along D.N) e = every-also (InPlace b) (AtStart p) (λ c. at-place b c h) (childrenCut b D.N) (cut-in-place b D.N)
+  along-start b h (A.Along D.Theta) e = every-also (InPlace b) (AtStart p) (λ c. at-place b c h) (childrenCut b D.Theta) (cut-in-place b D.Theta)
+  along-start b h (A.Along D.T) e = every-also (InPlace b) (AtStart p) (λ c. at-place b c h) (childrenCut b D.T) (cut-in-place b D.T)
   along-start b h A.Beyond e = (h, tt)
 
-  children-start : (b : Block) → sound p b ≡ true → AtStart p b → Each (AtStart p) (childrenOf p b)
+  children-start : (b : Block) → sound p b ≡ true → AtStart p b → Every (AtStart p) (childrenOf p b)
   unfolding childrenOf
   children-start b ok h = rw ok (along-start b h (directionOf p b) refl)
 
@@ -75,24 +78,24 @@ module _ (p : Chosen) (flat : inUse (p .set) D.XY ≡ false) where
 
     -- A WORLD IN WHICH ALL IS ALIKE
     pub record Even (w : World) : Type 0 where
-      pub places : Each (AtStart p) (queuedBlocks w)
+      pub places : Every (AtStart p) (queuedBlocks w)
       pub alike : (q q′ : Pixel p) → standingAt p (meanings (w .cells)) q ≡ standingAt p (meanings (w .cells)) q′
 
     even-step : (w w′ : World) (vs : List ℕ) → Linked p w vs w′ → Even w → Even w′
     even-step w w′ vs l h =
         let b = l .step .front in
-        let all : Each (AtStart p) (b ∷ l .step .rest) = rw (l .step .at-front) at (h .places) in
+        let all : Every (AtStart p) (b ∷ l .step .rest) = rw (l .step .at-front) at (h .places) in
         let es : EachEvent (AtStart p) (l .step .events) = rw (linked-events p w vs w′ l)
         (events-each (AtStart p) (λ c d s. record { x = s .x; y = s .y }) p b (childrenOf p b) (outcomes p (meanings (w .cells)) (childrenOf p b) vs) (children-start b (l .front-sound) (all .0))) in
         let whole : WholePicture (coversIn p) false (snapshotOf p w) (snapshotOf p w′) (l .step) = unfold WholePicture in (start-covers b (all .0), all-whole (l .step .events) es) in
         record {
-          places = rw (l .step .queue′) (each-append (AtStart p) (l .step .rest) (queuedBy (l .step .events)) (all .1) (queued-each (AtStart p) (l .step .events) es));
+          places = rw (l .step .queue′) (every-append (AtStart p) (l .step .rest) (queuedBy (l .step .events)) (all .1) (queued-each (AtStart p) (l .step .events) es));
           alike = λ q q′. step-alike (coversIn p) false (l .step) whole q q′ (h .alike q q′);
         }
 
     even-move : (w w′ : World) → snapshotOf p w ≡ snapshotOf p w′ → Even w → Even w′
     even-move w w′ e h = record {
-      places = subst (λ (s : Snapshot Block (Pixel p)). Each (AtStart p) (s .queue)) e (h .places);
+      places = subst (λ (s : Snapshot Block (Pixel p)). Every (AtStart p) (s .queue)) e (h .places);
       alike = subst (λ (s : Snapshot Block (Pixel p)). (q q′ : Pixel p) → s .cells q ≡ s .cells q′) e (h .alike);
     }
 
@@ -115,7 +118,7 @@ begun-even a w z flat =
     let p = a .chosen in
     record {
       places = rw (begun-queue a w z)
-          (each-also (FirstBlock p) (AtStart p) (λ b f. record { x = f .x; y = f .y }) (firstBlocks p (a .ranges))
-          (queue-each (FirstBlock p) (firstBlocks p (a .ranges)) (first-blocks p (a .ranges) (z .held) (begun-passed a w z .ranges))));
+          (every-also (FirstBlock p) (AtStart p) (λ b f. record { x = f .x; y = f .y }) (firstBlocks p (a .ranges))
+          (first-blocks p (a .ranges) (z .held) (begun-passed a w z .ranges)));
       alike = λ q q′. begun-accepted a w z .name-last q ∙ sym (begun-accepted a w z .name-last q′);
     }

@@ -1,47 +1,21 @@
 -- What holds of each child of a block, whatever its direction, holds of each block that the step marks or queues. Assumes nothing.
-use mathlib.Core.List.{List, [], _∷_, _++_}
+use mathlib.Core.List.{List, [], _∷_}
 use Prim.Native.Nat.{ℕ}
 use Rattle.base.proofs.Test.{by-test}
 use Rattle.base.specs.Event.{Event, marks, queues, givesUp, queuedBy}
-use Rattle.theory.specs.Lists as Theory
+use Rattle.base.specs.Lists.{Every}
 use Rattle.queue.specs.declared.Block.{Block}
-use Rattle.queue.proofs.QueueLaws as Queue
 use Rattle.decide.specs.declared.Chosen.{Chosen}
 use Rattle.decide.specs.declared.turn.Found.{Found}
 use Rattle.decide.specs.declared.turn.Found.the-variants as F
 use Rattle.decide.specs.declared.verdict.Outcome.{Outcome}
-use Rattle.decide.specs.Verdict.{isMarking, isOpen}
+use Rattle.decide.specs.Verdict.{isMarking, isIncomplete}
 use Rattle.decide.specs.Turn.{searched, startOf, turnedTo, turnedBy, turned}
-use Rattle.plan.specs.Plan.{openCount, markEvents, turnEvent, turnEvents, eventsFor}
-use Rattle.plan.proofs.Each.{Each}
-use Rattle.plan.proofs.EventLaws.{EachEvent}
-
--- three words for one thing
-pub each-queue : (P : Block → Type 0) (l : List Block) → Each P l → Queue.Every P l
-each-queue P [] h = tt
-each-queue P (b ∷ l) h = (h .0, each-queue P l (h .1))
-
-pub queue-each : (P : Block → Type 0) (l : List Block) → Queue.Every P l → Each P l
-queue-each P [] h = tt
-queue-each P (b ∷ l) h = (h .0, queue-each P l (h .1))
-
-pub each-theory : {A : Type 0} (P : A → Type 0) (l : List A) → Each P l → Theory.Every P l
-unfolding Theory.Every
-each-theory P [] h = tt
-each-theory P (a ∷ l) h = (h .0, each-theory P l (h .1))
-
-pub each-append : {A : Type 0} (P : A → Type 0) (l m : List A) → Each P l → Each P m → Each P (l ++ m)
-each-append P [] m h k = k
-each-append P (a ∷ l) m h k = (h .0, each-append P l m (h .1) k)
-
-event-append : (P : Block → Type 0) (es fs : List (Event Block)) → EachEvent P es → EachEvent P fs → EachEvent P (es ++ fs)
-event-append P [] fs h k = k
-event-append P (marks c ∷ es) fs h k = (h .0, event-append P es fs (h .1) k)
-event-append P (queues c ∷ es) fs h k = (h .0, event-append P es fs (h .1) k)
-event-append P (givesUp ∷ es) fs h k = event-append P es fs h k
+use Rattle.plan.specs.Plan.{incompleteCount, markEvents, turnEvent, turnEvents, eventsFor}
+use Rattle.plan.proofs.EventLaws.{EachEvent, event-append}
 
 -- of each that is queued
-pub queued-each : (P : Block → Type 0) (es : List (Event Block)) → EachEvent P es → Each P (queuedBy es)
+pub queued-each : (P : Block → Type 0) (es : List (Event Block)) → EachEvent P es → Every P (queuedBy es)
 unfolding queuedBy
 queued-each P [] h = tt
 queued-each P (marks c ∷ es) h = queued-each P es (h .1)
@@ -49,7 +23,7 @@ queued-each P (queues c ∷ es) h = (h .0, queued-each P es (h .1))
 queued-each P (givesUp ∷ es) h = queued-each P es h
 
 module _ (P : Block → Type 0) (keeps : (c : Block) (d : ℕ) → P c → P (turnedTo c d)) (p : Chosen) (b : Block) where
-  marked-each : (cs : List Block) (os : List Outcome) → Each P cs → EachEvent P (markEvents cs os)
+  marked-each : (cs : List Block) (os : List Outcome) → Every P cs → EachEvent P (markEvents cs os)
   unfolding markEvents
   marked-each [] os h = tt
   marked-each (c ∷ cs) [] h = tt
@@ -60,16 +34,16 @@ module _ (P : Block → Type 0) (keeps : (c : Block) (d : ℕ) → P c → P (tu
   one-turned c (F.At d) es h k = (keeps c d h, k)
   one-turned c F.Nothing es h k = k
 
-  turned-each : (n : ℕ) (cs : List Block) (os : List Outcome) → Each P cs → EachEvent P (turnEvents (turned p b n) cs os)
+  turned-each : (n : ℕ) (cs : List Block) (os : List Outcome) → Every P cs → EachEvent P (turnEvents (turned p b n) cs os)
   unfolding turnEvents turned
   turned-each n [] os h = tt
   turned-each n (c ∷ cs) [] h = tt
   turned-each n (c ∷ cs) (o ∷ os) h =
       let rest = turnEvents (turned p b n) cs os in
-      by-test (EachEvent P) (isOpen o) (turnEvent (turned p b n c) ∷ rest) rest
+      by-test (EachEvent P) (isIncomplete o) (turnEvent (turned p b n c) ∷ rest) rest
       (λ e. one-turned c (searched p c (startOf p b n)) rest (h .0) (turned-each n cs os (h .1))) (λ e. turned-each n cs os (h .1))
 
-  pub events-each : (cs : List Block) (os : List Outcome) → Each P cs → EachEvent P (eventsFor p b cs os)
+  pub events-each : (cs : List Block) (os : List Outcome) → Every P cs → EachEvent P (eventsFor p b cs os)
   unfolding eventsFor
   events-each cs os h =
-      event-append P (markEvents cs os) (turnEvents (turned p b (openCount os)) cs os) (marked-each cs os h) (turned-each (openCount os) cs os h)
+      event-append P (markEvents cs os) (turnEvents (turned p b (incompleteCount os)) cs os) (marked-each cs os h) (turned-each (incompleteCount os) cs os h)

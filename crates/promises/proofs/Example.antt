@@ -6,7 +6,7 @@ use Prim.Native.Nat.{ℕ, _<_}
 use lib.Count.{trailingZeros}
 use lib.Dec.{lit<}
 use lib.Ieee.{fits, le}
-use Rattle.theory.specs.Colours.{saidFalse, saidTrue, saidOpen}
+use Rattle.theory.specs.Colours.{saidFalse, saidTrue, saidUndecided}
 use Rattle.image.specs.declared.Reading.the-variants as R
 use Rattle.queue.specs.Block.{wholeLine}
 use Rattle.small.specs.Small.{tailOf, codeOf, smallCode, readBehind, readSmall}
@@ -21,19 +21,20 @@ use Rattle.queue.specs.Directions.{usedOf, directions, directionAt}
 use Rattle.queue.specs.Block.{remembered, startingLast}
 use Rattle.queue.specs.Code.{coordinateCode, parameterCode, parametersCode, placeCode, encode}
 use Rattle.queue.specs.Decode.{levelRead, coordinateOf, coordinateRead, parameterRead, withX, placeRead, addParameter, addParameters, addDirection, decode}
-use Rattle.queue.specs.Ring.{olderRun, newerRun, content, stored}
+use Rattle.queue.specs.Ring.{olderStretch, newerStretch, content, stored}
 use Rattle.queue.specs.Queue.{taken, queueOf, queueCodes, memory}
 use Rattle.decide.specs.Damage.{legalChosen, undamaged, cellDamaged}
 use Rattle.decide.specs.Children.{quartersOf, keptInside, childrenXY, childrenOf}
-use Rattle.decide.specs.Verdict.{legalVerdict, allLegal, toldOutcome}
-use Rattle.plan.specs.Plan.{allTrue, outcomes, evaluations, openCount, markEvents, turnEvents, eventsFor, cellsAfter}
+use Rattle.decide.specs.Verdict.{legalVerdict, allLegal, verdictOutcome}
+use Rattle.plan.specs.Plan.{allTrue, outcomes, evaluations, incompleteCount, markEvents, turnEvents, eventsFor, cellsAfter}
 use Rattle.implicit.specs.Record.{soundLast, soundRecord, putLast}
-use Rattle.implicit.specs.Setup.{leastFrom, startLevel, rootBlock, cutFirstIn, firstBlocks, rangesLegal, firstBytes, setupRefusal, startRecord, startRing, startCells, startedAnswer, ringBegun, cellsBegun}
-use Rattle.implicit.specs.Step.{unless, worldLeft, judged, opened, stepWith}
+use Rattle.implicit.specs.Setup.{leastFrom, startLevel, rootBlock, cutFirstIn, firstBlocks, rangesLegal, firstBytes, setupRefusal, startRecord}
+use Rattle.implicit.specs.Setup.{startRing, startCells, setupAnswer, ringBegun, cellsBegun}
+use Rattle.implicit.specs.Step.{unless, worldLeft, judged, afterTaking, stepWith}
 use Rattle.implicit.specs.Step.{World, worldOf, finished, stepOf}
 use Rattle.promises.specs.Chart.{Pixel, queuedBlocks}
 use Rattle.promises.specs.Steps.{Asked, BegunAs, Steps, no-steps, then-step, verdictsOf, evaluationsOf, readsIn}
-use Rattle.promises.specs.Turns.{saidBy}
+use Rattle.promises.specs.Judgements.{saidBy}
 
 -- the sheet's picture, with a ring of one byte and cells of one number more than are needed
 abbrev pub sheet : Asked
@@ -51,7 +52,10 @@ first = worldOf
     (1 ∷ 1 ∷ 1 ∷ 1 ∷ 0 ∷ 9 ∷ []) (0 ∷ 0 ∷ 7 ∷ [])
 
 pub begun : BegunAs sheet first
-unfolding startedAnswer setupRefusal rangesLegal firstBytes firstBlocks cutFirstIn rootBlock startLevel leastFrom startRecord startRing startCells ringBegun cellsBegun queueCodes memory encode placeCode coordinateCode parametersCode parameterCode startingLast remembered smallCode codeOf tailOf littleEndian stored paintedCells paintable painted pictureReady inPicture holdsCell nameable doneTo meaningOf cellCode fits
+unfolding setupAnswer setupRefusal rangesLegal firstBytes firstBlocks cutFirstIn rootBlock startLevel leastFrom startRecord startRing
+    startCells ringBegun cellsBegun queueCodes memory encode placeCode coordinateCode parametersCode parameterCode startingLast remembered
+    smallCode codeOf tailOf littleEndian stored paintedCells paintable painted pictureReady inPicture holdsCell nameable doneTo meaningOf
+    cellCode fits
 begun = record { accepted = refl; state = refl; ring = refl; cells = refl; held = ((tt, tt), (tt, tt), (tt, tt), (tt, tt)) }
 
 -- what the step leaves: the block is taken, its left child marked, its right one false
@@ -61,7 +65,12 @@ second = worldOf
     (1 ∷ 1 ∷ 1 ∷ 1 ∷ 0 ∷ 9 ∷ []) (4294967296 ∷ 0 ∷ 7 ∷ [])
 
 pub one-step : stepOf first (128 ∷ 0 ∷ []) ≡ finished second 2 2
-unfolding stepWith unless opened judged worldLeft soundRecord soundLast putLast legalChosen legalInterval wholeBound zeroAs putInterval startingLast remembered taken content olderRun newerRun decode placeRead withX coordinateRead coordinateOf readSmall readBehind levelRead addParameters addParameter parameterRead addDirection undamaged cellDamaged inRange inside places pixel rectangleOf holdsCell heldCells someOf everyOf isDamaged isMarked meaningOf cellCode directions usedOf directionAt childrenOf childrenXY keptInside quartersOf allLegal legalVerdict outcomes allTrue toldOutcome evaluations openCount eventsFor markEvents turnEvents queuedBy queueCodes memory cellsAfter painted doneTo stored ofLittleEndian littleEndian le trailingZeros
+unfolding stepWith unless afterTaking judged worldLeft soundRecord soundLast putLast legalChosen legalInterval wholeBound zeroAs putInterval
+    startingLast remembered taken content olderStretch newerStretch decode placeRead withX coordinateRead coordinateOf readSmall readBehind
+    levelRead addParameters addParameter parameterRead addDirection undamaged cellDamaged inRange inside places pixel rectangleOf holdsCell
+    heldCells someOf everyOf isDamaged isMarked meaningOf cellCode directions usedOf directionAt childrenOf childrenXY keptInside quartersOf
+    allLegal legalVerdict outcomes allTrue verdictOutcome evaluations incompleteCount eventsFor markEvents turnEvents queuedBy queueCodes memory
+    cellsAfter painted doneTo stored ofLittleEndian littleEndian le trailingZeros
 one-step = refl
 
 unfoldable pub stepped : Steps 1 first second
@@ -90,7 +99,7 @@ unfolding verdictsOf evaluationsOf stepped
 took-both = (refl, refl)
 
 -- what bytes say: false; undecided and true from a pixel's level up; below it true alone, true with an area, an area without and with a point
-pub bytes-say : (saidBy 48 0 ≡ saidFalse) × (saidBy 48 64 ≡ saidOpen) × (saidBy 48 128 ≡ saidTrue)
-    × (saidBy 47 128 ≡ saidOpen) × (saidBy 47 160 ≡ saidTrue) × (saidBy 47 96 ≡ saidOpen) × (saidBy 47 97 ≡ saidTrue)
+pub bytes-say : (saidBy 48 0 ≡ saidFalse) × (saidBy 48 64 ≡ saidUndecided) × (saidBy 48 128 ≡ saidTrue)
+    × (saidBy 47 128 ≡ saidUndecided) × (saidBy 47 160 ≡ saidTrue) × (saidBy 47 96 ≡ saidUndecided) × (saidBy 47 97 ≡ saidTrue)
 unfolding saidBy
 bytes-say = (refl, refl, refl, refl, refl, refl, refl)

@@ -19,16 +19,17 @@ use Rattle.queue.specs.Directions.{usedOf, directions, directionAt}
 use Rattle.queue.specs.Block.{remembered, startingLast}
 use Rattle.queue.specs.Code.{coordinateCode, parameterCode, parametersCode, placeCode, encode}
 use Rattle.queue.specs.Decode.{levelRead, coordinateOf, coordinateRead, parameterRead, withX, placeRead, addParameter, addParameters, addDirection, decode}
-use Rattle.queue.specs.Ring.{olderRun, newerRun, content, stored}
+use Rattle.queue.specs.Ring.{olderStretch, newerStretch, content, stored}
 use Rattle.queue.specs.Queue.{taken, queueCodes, memory}
 use Rattle.decide.specs.Damage.{legalChosen, undamaged, cellDamaged}
 use Rattle.decide.specs.Children.{quartersOf, keptInside, childrenXY, childrenOf}
-use Rattle.decide.specs.Verdict.{legalVerdict, allLegal, undecidedOutcome, toldOutcome}
+use Rattle.decide.specs.Verdict.{legalVerdict, allLegal, undecidedOutcome, verdictOutcome}
 use Rattle.decide.specs.Turn.{startOf, searchedFrom, turned}
-use Rattle.plan.specs.Plan.{allTrue, outcomes, evaluations, openCount, markEvents, turnEvents, eventsFor, cellsAfter}
+use Rattle.plan.specs.Plan.{allTrue, outcomes, evaluations, incompleteCount, markEvents, turnEvents, eventsFor, cellsAfter}
 use Rattle.implicit.specs.Record.{soundLast, soundRecord, putLast}
-use Rattle.implicit.specs.Setup.{leastFrom, startLevel, rootBlock, cutFirstIn, firstBlocks, rangesLegal, firstBytes, setupRefusal, startRecord, startRing, startCells, startedAnswer, ringBegun, cellsBegun}
-use Rattle.implicit.specs.Step.{unless, worldLeft, judged, opened, stepWith}
+use Rattle.implicit.specs.Setup.{leastFrom, startLevel, rootBlock, cutFirstIn, firstBlocks, rangesLegal, firstBytes, setupRefusal, startRecord}
+use Rattle.implicit.specs.Setup.{startRing, startCells, setupAnswer, ringBegun, cellsBegun}
+use Rattle.implicit.specs.Step.{unless, worldLeft, judged, afterTaking, stepWith}
 use Rattle.implicit.specs.Step.{World, worldOf, finished, stepOf, stepAnswer}
 use Rattle.implicit.specs.Answers.{stepNumber}
 use Rattle.implicit.specs.Room.{parameterCount, stepGrowth, enoughBytes}
@@ -52,12 +53,21 @@ narrow-left = worldOf
     (1 ∷ 1 ∷ 1 ∷ 1 ∷ 0 ∷ 9 ∷ 9 ∷ 9 ∷ 9 ∷ []) (0 ∷ 0 ∷ [])
 
 pub narrow-begun : BegunAs narrow narrow-left
-unfolding startedAnswer setupRefusal rangesLegal firstBytes firstBlocks cutFirstIn rootBlock startLevel leastFrom startRecord startRing startCells ringBegun cellsBegun queueCodes memory encode placeCode coordinateCode parametersCode parameterCode startingLast remembered smallCode codeOf tailOf littleEndian stored paintedCells paintable painted pictureReady inPicture holdsCell nameable doneTo meaningOf cellCode fits
+unfolding setupAnswer setupRefusal rangesLegal firstBytes firstBlocks cutFirstIn rootBlock startLevel leastFrom startRecord startRing
+    startCells ringBegun cellsBegun queueCodes memory encode placeCode coordinateCode parametersCode parameterCode startingLast remembered
+    smallCode codeOf tailOf littleEndian stored paintedCells paintable painted pictureReady inPicture holdsCell nameable doneTo meaningOf
+    cellCode fits
 narrow-begun = record { accepted = refl; state = refl; ring = refl; cells = refl; held = ((tt, tt), (tt, tt), (tt, tt), (tt, tt)) }
 
 -- two codes of five bytes do not fit
 pub narrow-full : stepNumber (stepAnswer (narrow-left .state) (stepOf narrow-left (64 ∷ 64 ∷ []))) ≡ 6
-unfolding stepWith unless opened judged worldLeft soundRecord soundLast putLast legalChosen legalInterval wholeBound zeroAs putInterval startingLast remembered taken content olderRun newerRun decode placeRead withX coordinateRead coordinateOf readSmall readBehind levelRead addParameters addParameter parameterRead addDirection undamaged cellDamaged inRange inside places pixel rectangleOf holdsCell heldCells someOf everyOf isDamaged isMarked meaningOf cellCode directions usedOf directionAt childrenOf childrenXY keptInside quartersOf allLegal legalVerdict outcomes allTrue toldOutcome undecidedOutcome evaluations openCount eventsFor markEvents turnEvents turned startOf searchedFrom queuedBy queueCodes memory encode placeCode coordinateCode parametersCode parameterCode smallCode codeOf tailOf cellsAfter painted doneTo stored ofLittleEndian littleEndian le trailingZeros
+unfolding stepWith unless afterTaking judged worldLeft soundRecord soundLast putLast legalChosen legalInterval wholeBound zeroAs putInterval
+    startingLast remembered taken content olderStretch newerStretch decode placeRead withX coordinateRead coordinateOf readSmall readBehind
+    levelRead addParameters addParameter parameterRead addDirection undamaged cellDamaged inRange inside places pixel rectangleOf holdsCell
+    heldCells someOf everyOf isDamaged isMarked meaningOf cellCode directions usedOf directionAt childrenOf childrenXY keptInside quartersOf
+    allLegal legalVerdict outcomes allTrue verdictOutcome undecidedOutcome evaluations incompleteCount eventsFor markEvents turnEvents turned startOf
+    searchedFrom queuedBy queueCodes memory encode placeCode coordinateCode parametersCode parameterCode smallCode codeOf tailOf cellsAfter
+    painted doneTo stored ofLittleEndian littleEndian le trailingZeros
 narrow-full = refl
 
 -- the chart on the long ring, from its start on
@@ -78,20 +88,30 @@ wide-two = worldOf
 
 -- moved there, the narrow chart is the one that was begun there, and its step is finished
 pub narrow-moves : moveOf narrow-left nines ≡ moved wide
-unfolding moveOf movedWorld movedRecord soundRecord soundLast legalChosen legalInterval wholeBound startingLast content olderRun newerRun stored le
+unfolding moveOf movedWorld movedRecord soundRecord soundLast legalChosen legalInterval wholeBound startingLast content olderStretch newerStretch stored le
 narrow-moves = refl
 
 pub wide-begun : BegunAs (onRing two nines) wide
-unfolding startedAnswer setupRefusal rangesLegal firstBytes firstBlocks cutFirstIn rootBlock startLevel leastFrom startRecord startRing startCells ringBegun cellsBegun queueCodes memory encode placeCode coordinateCode parametersCode parameterCode startingLast remembered smallCode codeOf tailOf littleEndian stored paintedCells paintable painted pictureReady inPicture holdsCell nameable doneTo meaningOf cellCode fits
+unfolding setupAnswer setupRefusal rangesLegal firstBytes firstBlocks cutFirstIn rootBlock startLevel leastFrom startRecord startRing
+    startCells ringBegun cellsBegun queueCodes memory encode placeCode coordinateCode parametersCode parameterCode startingLast remembered
+    smallCode codeOf tailOf littleEndian stored paintedCells paintable painted pictureReady inPicture holdsCell nameable doneTo meaningOf
+    cellCode fits
 wide-begun = record { accepted = refl; state = refl; ring = refl; cells = refl; held = ((tt, tt), (tt, tt), (tt, tt), (tt, tt)) }
 
 pub wide-steps : (stepOf wide (64 ∷ 64 ∷ []) ≡ finished wide-one 2 2) × (stepOf wide-one (160 ∷ 0 ∷ 0 ∷ 0 ∷ []) ≡ finished wide-two 1 4)
-unfolding stepWith unless opened judged worldLeft soundRecord soundLast putLast legalChosen legalInterval wholeBound zeroAs putInterval startingLast remembered taken content olderRun newerRun decode placeRead withX coordinateRead coordinateOf readSmall readBehind levelRead addParameters addParameter parameterRead addDirection undamaged cellDamaged inRange inside places pixel rectangleOf holdsCell heldCells someOf everyOf isDamaged isMarked meaningOf cellCode directions usedOf directionAt childrenOf childrenXY keptInside quartersOf allLegal legalVerdict outcomes allTrue toldOutcome undecidedOutcome evaluations openCount eventsFor markEvents turnEvents turned startOf searchedFrom queuedBy queueCodes memory encode placeCode coordinateCode parametersCode parameterCode smallCode codeOf tailOf cellsAfter painted doneTo stored ofLittleEndian littleEndian le trailingZeros
+unfolding stepWith unless afterTaking judged worldLeft soundRecord soundLast putLast legalChosen legalInterval wholeBound zeroAs putInterval
+    startingLast remembered taken content olderStretch newerStretch decode placeRead withX coordinateRead coordinateOf readSmall readBehind
+    levelRead addParameters addParameter parameterRead addDirection undamaged cellDamaged inRange inside places pixel rectangleOf holdsCell
+    heldCells someOf everyOf isDamaged isMarked meaningOf cellCode directions usedOf directionAt childrenOf childrenXY keptInside quartersOf
+    allLegal legalVerdict outcomes allTrue verdictOutcome undecidedOutcome evaluations incompleteCount eventsFor markEvents turnEvents turned startOf
+    searchedFrom queuedBy queueCodes memory encode placeCode coordinateCode parametersCode parameterCode smallCode codeOf tailOf cellsAfter
+    painted doneTo stored ofLittleEndian littleEndian le trailingZeros
 wide-steps = (refl, refl)
 
 -- the long ring is enough for one step
 pub enough-for-one : enoughBytes (two .chosen) (two .ranges) 1 ≡ length nines
-unfolding enoughBytes stepGrowth parameterCount usedOf firstBytes firstBlocks cutFirstIn rootBlock startLevel leastFrom queueCodes encode placeCode coordinateCode parametersCode parameterCode startingLast smallCode codeOf tailOf littleEndian
+unfolding enoughBytes stepGrowth parameterCount usedOf firstBytes firstBlocks cutFirstIn rootBlock startLevel leastFrom queueCodes encode
+    placeCode coordinateCode parametersCode parameterCode startingLast smallCode codeOf tailOf littleEndian
 enough-for-one = refl
 
 -- ---- a move between two steps
@@ -107,11 +127,17 @@ grown-two = worldOf
     (1 ∷ 0 ∷ 1 ∷ 0 ∷ 0 ∷ 3 ∷ 0 ∷ 1 ∷ 0 ∷ 0 ∷ 9 ∷ 9 ∷ 9 ∷ 9 ∷ 9 ∷ 9 ∷ 9 ∷ 9 ∷ 9 ∷ 9 ∷ 9 ∷ 9 ∷ 9 ∷ 9 ∷ 9 ∷ 9 ∷ 9 ∷ 9 ∷ 9 ∷ 9 ∷ 9 ∷ 9 ∷ []) (4294967296 ∷ 2 ∷ [])
 
 pub grows : moveOf (after 1) nines ≡ moved grown
-unfolding moveOf movedWorld movedRecord soundRecord soundLast legalChosen legalInterval wholeBound startingLast content olderRun newerRun stored le
+unfolding moveOf movedWorld movedRecord soundRecord soundLast legalChosen legalInterval wholeBound startingLast content olderStretch newerStretch stored le
 grows = refl
 
 pub grown-step : stepOf grown (160 ∷ 0 ∷ 0 ∷ 0 ∷ []) ≡ finished grown-two 1 4
-unfolding stepWith unless opened judged worldLeft soundRecord soundLast putLast legalChosen legalInterval wholeBound zeroAs putInterval startingLast remembered taken content olderRun newerRun decode placeRead withX coordinateRead coordinateOf readSmall readBehind levelRead addParameters addParameter parameterRead addDirection undamaged cellDamaged inRange inside places pixel rectangleOf holdsCell heldCells someOf everyOf isDamaged isMarked meaningOf cellCode directions usedOf directionAt childrenOf childrenXY keptInside quartersOf allLegal legalVerdict outcomes allTrue toldOutcome undecidedOutcome evaluations openCount eventsFor markEvents turnEvents turned startOf searchedFrom queuedBy queueCodes memory encode placeCode coordinateCode parametersCode parameterCode smallCode codeOf tailOf cellsAfter painted doneTo stored ofLittleEndian littleEndian le trailingZeros
+unfolding stepWith unless afterTaking judged worldLeft soundRecord soundLast putLast legalChosen legalInterval wholeBound zeroAs putInterval
+    startingLast remembered taken content olderStretch newerStretch decode placeRead withX coordinateRead coordinateOf readSmall readBehind
+    levelRead addParameters addParameter parameterRead addDirection undamaged cellDamaged inRange inside places pixel rectangleOf holdsCell
+    heldCells someOf everyOf isDamaged isMarked meaningOf cellCode directions usedOf directionAt childrenOf childrenXY keptInside quartersOf
+    allLegal legalVerdict outcomes allTrue verdictOutcome undecidedOutcome evaluations incompleteCount eventsFor markEvents turnEvents turned startOf
+    searchedFrom queuedBy queueCodes memory encode placeCode coordinateCode parametersCode parameterCode smallCode codeOf tailOf cellsAfter
+    painted doneTo stored ofLittleEndian littleEndian le trailingZeros
 grown-step = refl
 
 -- two steps from the setup, with a move between them, and the same two on the long ring
@@ -129,7 +155,7 @@ shrunk = worldOf
     (9 ∷ []) (4294967297 ∷ [])
 
 pub shrinks : moveOf given-up (9 ∷ []) ≡ moved shrunk
-unfolding moveOf movedWorld movedRecord soundRecord soundLast legalChosen legalInterval wholeBound startingLast content olderRun newerRun stored le
+unfolding moveOf movedWorld movedRecord soundRecord soundLast legalChosen legalInterval wholeBound startingLast content olderStretch newerStretch stored le
 shrinks = refl
 
 unfoldable pub gave-up-moved : Steps 1 waits shrunk

@@ -21,16 +21,17 @@ use Rattle.queue.specs.Directions.{usedOf, directions, directionAt}
 use Rattle.queue.specs.Block.{wholeLine, remembered, startingLast}
 use Rattle.queue.specs.Code.{coordinateCode, parameterCode, parametersCode, placeCode, encode}
 use Rattle.queue.specs.Decode.{levelRead, coordinateOf, coordinateRead, parameterRead, withX, placeRead, addParameter, addParameters, addDirection, decode}
-use Rattle.queue.specs.Ring.{olderRun, newerRun, content, stored}
+use Rattle.queue.specs.Ring.{olderStretch, newerStretch, content, stored}
 use Rattle.queue.specs.Queue.{taken, queueCodes, memory}
 use Rattle.decide.specs.Damage.{legalChosen, undamaged, cellDamaged}
 use Rattle.decide.specs.Children.{quartersOf, keptInside, childrenXY, childrenOf}
-use Rattle.decide.specs.Verdict.{legalVerdict, allLegal, undecidedOutcome, toldOutcome}
+use Rattle.decide.specs.Verdict.{legalVerdict, allLegal, undecidedOutcome, verdictOutcome}
 use Rattle.decide.specs.Turn.{startOf, searchedFrom, turned}
-use Rattle.plan.specs.Plan.{allTrue, outcomes, evaluations, openCount, markEvents, turnEvents, eventsFor, cellsAfter}
+use Rattle.plan.specs.Plan.{allTrue, outcomes, evaluations, incompleteCount, markEvents, turnEvents, eventsFor, cellsAfter}
 use Rattle.implicit.specs.Record.{soundLast, soundRecord, putLast}
-use Rattle.implicit.specs.Setup.{leastFrom, startLevel, rootBlock, cutFirstIn, firstBlocks, rangesLegal, firstBytes, setupRefusal, startRecord, startRing, startCells, startedAnswer, ringBegun, cellsBegun}
-use Rattle.implicit.specs.Step.{unless, worldLeft, judged, opened, stepWith}
+use Rattle.implicit.specs.Setup.{leastFrom, startLevel, rootBlock, cutFirstIn, firstBlocks, rangesLegal, firstBytes, setupRefusal, startRecord}
+use Rattle.implicit.specs.Setup.{startRing, startCells, setupAnswer, ringBegun, cellsBegun}
+use Rattle.implicit.specs.Step.{unless, worldLeft, judged, afterTaking, stepWith}
 use Rattle.implicit.specs.Step.{World, worldOf, finished, stepOf, stepAnswer}
 use Rattle.implicit.specs.Answers.{stepNumber}
 use Rattle.promises.specs.Chart.{Pixel}
@@ -66,19 +67,32 @@ after (suc (suc (suc n))) = worldOf
     (1 ∷ 1 ∷ 1 ∷ 1 ∷ 0 ∷ 1 ∷ 0 ∷ 1 ∷ 0 ∷ 0 ∷ 3 ∷ 0 ∷ 1 ∷ 0 ∷ 0 ∷ 9 ∷ []) (1 ∷ 4294967296 ∷ [])
 
 pub two-begun : BegunAs two (after 0)
-unfolding startedAnswer setupRefusal rangesLegal firstBytes firstBlocks cutFirstIn rootBlock startLevel leastFrom startRecord startRing startCells ringBegun cellsBegun queueCodes memory encode placeCode coordinateCode parametersCode parameterCode startingLast remembered smallCode codeOf tailOf littleEndian stored paintedCells paintable painted pictureReady inPicture holdsCell nameable doneTo meaningOf cellCode fits
+unfolding setupAnswer setupRefusal rangesLegal firstBytes firstBlocks cutFirstIn rootBlock startLevel leastFrom startRecord startRing
+    startCells ringBegun cellsBegun queueCodes memory encode placeCode coordinateCode parametersCode parameterCode startingLast remembered
+    smallCode codeOf tailOf littleEndian stored paintedCells paintable painted pictureReady inPicture holdsCell nameable doneTo meaningOf
+    cellCode fits
 two-begun = record { accepted = refl; state = refl; ring = refl; cells = refl; held = ((tt, tt), (tt, tt), (tt, tt), (tt, tt)) }
 
 pub three-steps : (stepOf (after 0) (64 ∷ 64 ∷ []) ≡ finished (after 1) 2 2)
     × (stepOf (after 1) (0 ∷ 0 ∷ 0 ∷ 0 ∷ []) ≡ finished (after 2) 4 4)
     × (stepOf (after 2) (160 ∷ 0 ∷ 0 ∷ 0 ∷ []) ≡ finished (after 3) 1 4)
-unfolding stepWith unless opened judged worldLeft soundRecord soundLast putLast legalChosen legalInterval wholeBound zeroAs putInterval startingLast remembered taken content olderRun newerRun decode placeRead withX coordinateRead coordinateOf readSmall readBehind levelRead addParameters addParameter parameterRead addDirection undamaged cellDamaged inRange inside places pixel rectangleOf holdsCell heldCells someOf everyOf isDamaged isMarked meaningOf cellCode directions usedOf directionAt childrenOf childrenXY keptInside quartersOf allLegal legalVerdict outcomes allTrue toldOutcome undecidedOutcome evaluations openCount eventsFor markEvents turnEvents turned startOf searchedFrom queuedBy queueCodes memory encode placeCode coordinateCode parametersCode parameterCode smallCode codeOf tailOf cellsAfter painted doneTo stored ofLittleEndian littleEndian le trailingZeros
+unfolding stepWith unless afterTaking judged worldLeft soundRecord soundLast putLast legalChosen legalInterval wholeBound zeroAs putInterval
+    startingLast remembered taken content olderStretch newerStretch decode placeRead withX coordinateRead coordinateOf readSmall readBehind
+    levelRead addParameters addParameter parameterRead addDirection undamaged cellDamaged inRange inside places pixel rectangleOf holdsCell
+    heldCells someOf everyOf isDamaged isMarked meaningOf cellCode directions usedOf directionAt childrenOf childrenXY keptInside quartersOf
+    allLegal legalVerdict outcomes allTrue verdictOutcome undecidedOutcome evaluations incompleteCount eventsFor markEvents turnEvents turned startOf
+    searchedFrom queuedBy queueCodes memory encode placeCode coordinateCode parametersCode parameterCode smallCode codeOf tailOf cellsAfter
+    painted doneTo stored ofLittleEndian littleEndian le trailingZeros
 three-steps = (refl, refl, refl)
 
 -- on what the setup left: three verdicts where there are two children are refused by 4, and a byte C0, which is no verdict, by 5
 pub two-refused : (stepNumber (stepAnswer (after 0 .state) (stepOf (after 0) (64 ∷ 64 ∷ 64 ∷ []))) ≡ 4)
     × (stepNumber (stepAnswer (after 0 .state) (stepOf (after 0) (64 ∷ 192 ∷ []))) ≡ 5)
-unfolding stepWith unless opened judged soundRecord soundLast putLast legalChosen legalInterval wholeBound zeroAs putInterval startingLast remembered taken content olderRun newerRun decode placeRead withX coordinateRead coordinateOf readSmall readBehind levelRead addParameters addParameter parameterRead addDirection undamaged cellDamaged inRange inside places pixel rectangleOf holdsCell heldCells someOf isDamaged meaningOf cellCode directions usedOf directionAt childrenOf childrenXY keptInside quartersOf allLegal legalVerdict ofLittleEndian littleEndian le trailingZeros
+unfolding stepWith unless afterTaking judged soundRecord soundLast putLast legalChosen legalInterval wholeBound zeroAs putInterval startingLast
+    remembered taken content olderStretch newerStretch decode placeRead withX coordinateRead coordinateOf readSmall readBehind levelRead
+    addParameters addParameter parameterRead addDirection undamaged cellDamaged inRange inside places pixel rectangleOf holdsCell heldCells
+    someOf isDamaged meaningOf cellCode directions usedOf directionAt childrenOf childrenXY keptInside quartersOf allLegal legalVerdict
+    ofLittleEndian littleEndian le trailingZeros
 two-refused = (refl, refl)
 
 -- from the setup on, so many steps
@@ -137,7 +151,10 @@ waits = worldOf
     (1 ∷ 0 ∷ 1 ∷ 0 ∷ 0 ∷ 9 ∷ []) (0 ∷ [])
 
 pub one-begun : BegunAs one waits
-unfolding startedAnswer setupRefusal rangesLegal firstBytes firstBlocks cutFirstIn rootBlock startLevel leastFrom startRecord startRing startCells ringBegun cellsBegun queueCodes memory encode placeCode coordinateCode parametersCode parameterCode startingLast remembered smallCode codeOf tailOf littleEndian stored paintedCells paintable painted pictureReady inPicture holdsCell nameable doneTo meaningOf cellCode fits
+unfolding setupAnswer setupRefusal rangesLegal firstBytes firstBlocks cutFirstIn rootBlock startLevel leastFrom startRecord startRing
+    startCells ringBegun cellsBegun queueCodes memory encode placeCode coordinateCode parametersCode parameterCode startingLast remembered
+    smallCode codeOf tailOf littleEndian stored paintedCells paintable painted pictureReady inPicture holdsCell nameable doneTo meaningOf
+    cellCode fits
 one-begun = record { accepted = refl; state = refl; ring = refl; cells = refl; held = ((tt, tt), (tt, tt), (tt, tt), (tt, tt)) }
 
 abbrev pub given-up : World
@@ -146,7 +163,13 @@ given-up = worldOf
     (1 ∷ 0 ∷ 1 ∷ 0 ∷ 0 ∷ 9 ∷ []) (4294967297 ∷ [])
 
 pub gives-up : stepOf waits (64 ∷ []) ≡ finished given-up 1 1
-unfolding stepWith unless opened judged worldLeft soundRecord soundLast putLast legalChosen legalInterval wholeBound zeroAs putInterval startingLast remembered taken content olderRun newerRun decode placeRead withX coordinateRead coordinateOf readSmall readBehind levelRead addParameters addParameter parameterRead addDirection undamaged cellDamaged inRange inside places pixel rectangleOf holdsCell heldCells someOf everyOf isDamaged isMarked meaningOf cellCode directions usedOf directionAt childrenOf childrenXY keptInside quartersOf allLegal legalVerdict outcomes allTrue toldOutcome undecidedOutcome evaluations openCount eventsFor markEvents turnEvents turned startOf searchedFrom queuedBy queueCodes memory encode placeCode coordinateCode parametersCode parameterCode smallCode codeOf tailOf cellsAfter painted doneTo stored ofLittleEndian littleEndian le trailingZeros
+unfolding stepWith unless afterTaking judged worldLeft soundRecord soundLast putLast legalChosen legalInterval wholeBound zeroAs putInterval
+    startingLast remembered taken content olderStretch newerStretch decode placeRead withX coordinateRead coordinateOf readSmall readBehind
+    levelRead addParameters addParameter parameterRead addDirection undamaged cellDamaged inRange inside places pixel rectangleOf holdsCell
+    heldCells someOf everyOf isDamaged isMarked meaningOf cellCode directions usedOf directionAt childrenOf childrenXY keptInside quartersOf
+    allLegal legalVerdict outcomes allTrue verdictOutcome undecidedOutcome evaluations incompleteCount eventsFor markEvents turnEvents turned startOf
+    searchedFrom queuedBy queueCodes memory encode placeCode coordinateCode parametersCode parameterCode smallCode codeOf tailOf cellsAfter
+    painted doneTo stored ofLittleEndian littleEndian le trailingZeros
 gives-up = refl
 
 unfoldable pub gave-up : Steps 1 waits given-up

@@ -1,6 +1,6 @@
 -- How many steps a chart can have: at most 2^32, for each takes a block and no more blocks are ever queued. So the bounds of deep levels are never
 -- reached. Assumes nothing.
-use mathlib.Core.Path.{_≡_, refl}
+use mathlib.Core.Path.{_≡_}
 use Prim.Native.Nat.{ℕ, zero, suc, _+_, _-_, _*_, _^_, _≤_, _<_}
 use native.Mathlib.Nat.{mul-le-mul}
 use native.Mathlib.Decide.{decLt}

@@ -1,5 +1,5 @@
 -- The same chart on two rings: a step ends alike on both, unless a ring is full, and a move to another ring leaves the same chart. So charts that were begun
--- alike and told the same are the same, whatever moves were made. Assumes nothing.
+-- alike and given the same verdicts are the same, whatever moves were made. Assumes nothing.
 use mathlib.Core.Path.{_≡_, refl, sym, ap, ap₂, _∙_, subst}
 use mathlib.Core.Bool.{Bool, true, false}
 use mathlib.Core.List.{List, [], _∷_}
@@ -20,11 +20,11 @@ use Rattle.decide.specs.Verdict.{allLegal}
 use Rattle.plan.specs.Plan.{evaluations}
 use Rattle.implicit.specs.declared.state.State.{State}
 use Rattle.implicit.specs.Setup.{firstBlocks, startRecord}
-use Rattle.implicit.specs.Step.{World, StepEnd, refused, finished, unless, enoughVerdicts, outcomesOf, newBlocks, newBytes, worldLeft, judged, stepWith, stepOf}
+use Rattle.implicit.specs.Step.{World, StepEnd, finished, unless, enoughVerdicts, outcomesOf, newBlocks, newBytes, worldLeft, judged, stepWith, stepOf}
 use Rattle.implicit.specs.Move.{movedRecord, movedWorld}
 use Rattle.promises.specs.Chart.{queuedBlocks}
 use Rattle.promises.specs.Steps.{Asked, BegunAs, MovesTo, to-ring, Steps, no-steps, then-step, then-move}
-use Rattle.promises.specs.Alike.{SameButRing, EndsAlike, toldIn, onRing, RingsAlike, StepsAlike}
+use Rattle.promises.specs.Alike.{SameButRing, EndsAlike, verdictsByStep, onRing, RingsAlike, StepsAlike}
 use Rattle.promises.proofs.Invariant.{Keeps, keeps-queue, head′, used′, step-passes, step-empty}
 use Rattle.promises.proofs.MoveKeeps.{went, moved-content}
 use Rattle.promises.proofs.StepKeeps.{left-holds}
@@ -150,33 +150,34 @@ module _ (p : Chosen) {w₀ v₀ : World} (h : Reached p w₀) (i : Reached p v�
   move-on : {m : ℕ} {v v′ : World} (s : Steps m v₀ v) → MovesTo v v′ → SameButRing v v′
   move-on s m = let k = steps-reached p i s in move-alike m (k .blocks) (k .keeps)
 
-  -- told nothing, there are moves alone
-  none-told : {m : ℕ} {v : World} (s : Steps m v₀ v) → [] ≡ toldIn s → SameButRing w₀ v
-  unfolding toldIn
-  none-told no-steps e = same
-  none-told (then-step s vs evals bytes f) e = let z = ap length e in absurd (omega arith)
-  none-told (then-move s m) e = same-on (none-told s e) (move-on s m)
+  -- without verdicts there are moves alone
+  no-verdicts : {m : ℕ} {v : World} (s : Steps m v₀ v) → [] ≡ verdictsByStep s → SameButRing w₀ v
+  unfolding verdictsByStep
+  no-verdicts no-steps e = same
+  no-verdicts (then-step s vs evals bytes f) e = let z = ap length e in absurd (omega arith)
+  no-verdicts (then-move s m) e = same-on (no-verdicts s e) (move-on s m)
 
-  -- told once more, by steps r that did as the other's did before
+  -- with one list of verdicts more, by steps r that did as the other's did before
   once-more : {n : ℕ} {w w′ : World} (r : Steps n w₀ w) (vs : List ℕ) (evals bytes : ℕ) → stepOf w vs ≡ finished w′ evals bytes
-      → ((m : ℕ) (v : World) (s : Steps m v₀ v) → toldIn r ≡ toldIn s → SameButRing w v)
-      → {m : ℕ} {v : World} (s : Steps m v₀ v) → vs ∷ toldIn r ≡ toldIn s → SameButRing w′ v
-  unfolding toldIn
+      → ((m : ℕ) (v : World) (s : Steps m v₀ v) → verdictsByStep r ≡ verdictsByStep s → SameButRing w v)
+      → {m : ℕ} {v : World} (s : Steps m v₀ v) → vs ∷ verdictsByStep r ≡ verdictsByStep s → SameButRing w′ v
+  unfolding verdictsByStep
   once-more r vs evals bytes f before no-steps e = let z = ap length e in absurd (omega arith)
   once-more {w = w} {w′ = w′} r vs evals bytes f before (then-step {n = m} {w′ = v} {w″ = v′} s us evals′ bytes′ g) e =
       let u : vs ≡ us = cc in
-      let t : toldIn r ≡ toldIn s = cc in
+      let t : verdictsByStep r ≡ verdictsByStep s = cc in
       let k = steps-reached p h r in
       let l = steps-reached p i s in
       let ends = ends-alike w v (k .blocks) (l .blocks) (k .keeps) (l .keeps) (before m v s t) false vs in
       both-left (stepOf w vs) (stepOf v vs) w′ v′ evals bytes evals′ bytes′ ends f (ap (stepOf v) u ∙ g)
   once-more r vs evals bytes f before (then-move s m) e = same-on (once-more r vs evals bytes f before s e) (move-on s m)
 
-  pub told-alike : {n : ℕ} {w : World} (r : Steps n w₀ w) (m : ℕ) (v : World) (s : Steps m v₀ v) → toldIn r ≡ toldIn s → SameButRing w v
-  unfolding toldIn
-  told-alike no-steps m v s e = none-told s e
-  told-alike (then-step r vs evals bytes f) m v s e = once-more r vs evals bytes f (λ k u t g. told-alike r k u t g) s e
-  told-alike (then-move r n) m v s e = let k = steps-reached p h r in same-on (same-back (move-alike n (k .blocks) (k .keeps))) (told-alike r m v s e)
+  pub same-verdicts-alike : {n : ℕ} {w : World} (r : Steps n w₀ w) (m : ℕ) (v : World) (s : Steps m v₀ v)
+      → verdictsByStep r ≡ verdictsByStep s → SameButRing w v
+  unfolding verdictsByStep
+  same-verdicts-alike no-steps m v s e = no-verdicts s e
+  same-verdicts-alike (then-step r vs evals bytes f) m v s e = once-more r vs evals bytes f (λ k u t g. same-verdicts-alike r k u t g) s e
+  same-verdicts-alike (then-move r n) m v s e = let k = steps-reached p h r in same-on (same-back (move-alike n (k .blocks) (k .keeps))) (same-verdicts-alike r m v s e)
 
 -- FROM TWO SETUPS
 
@@ -206,7 +207,7 @@ module _ (a : Asked) {w₀ : World} (z : BegunAs a w₀) (ring : List ℕ) {v₀
       }
 
   pub charts-alike : RingsAlike a w₀ ring v₀
-  charts-alike n m w v r = told-alike (a .chosen) (begun-reached a w₀ z) (begun-reached (onRing a ring) v₀ y) begun-alike r m v
+  charts-alike n m w v r = same-verdicts-alike (a .chosen) (begun-reached a w₀ z) (begun-reached (onRing a ring) v₀ y) begun-alike r m v
 
   pub steps-alike : StepsAlike a w₀ ring v₀
   steps-alike n m w v r s e =

@@ -5,7 +5,7 @@ use mathlib.Core.Bool.{false}
 use mathlib.Core.List.{List, [], _∷_}
 use Prim.Native.Nat.{ℕ, suc, _*_, _≤_}
 use lib.Dec.{T}
-use Rattle.theory.specs.Lists.{Some}
+use Rattle.base.specs.Lists.{Some}
 use Rattle.theory.specs.Cells.{readsTrue, readsUncertain}
 use Rattle.theory.specs.Demand3.{GivesUpBelow}
 use Rattle.theory.specs.Levels.{sumTo, placesAlong, pixelFigure}
@@ -16,16 +16,16 @@ use Rattle.queue.specs.declared.Block.{Block}
 use Rattle.decide.specs.Turn.{turnedTo}
 use Rattle.implicit.specs.Setup.{startLevel}
 use Rattle.implicit.specs.Step.{World, finished, stepOf}
-use Rattle.promises.specs.Chart.{Pixel, placeOf, coversIn, queuedBlocks}
+use Rattle.promises.specs.Chart.{Pixel, placeOfBlock, coversIn, queuedBlocks}
 use Rattle.promises.specs.Steps.{Asked, BegunAs, Steps, readsIn, GivenUpIn, PlaneOnly}
-use Rattle.promises.specs.Turns.{EveryAnswer}
+use Rattle.promises.specs.Judgements.{EveryAnswer}
 use Rattle.promises.proofs.Standings.{shown}
 use Rattle.promises.proofs.Linked.{begun-reached, begun-accepted, steps-reached, in-theory, each-linked, given-up-as, step-linked}
 use Rattle.promises.proofs.Demand3.{reads-linked, reads-both}
 use Rattle.promises.proofs.NoneWithdrawn.{gives-up-low}
 use Rattle.promises.proofs.PlaneBounds.{one-block, queues-children}
-use Rattle.promises.proofs.Turns.{cuttingOf}
-use Rattle.promises.proofs.ColoursHold.{every-judged, answers-turns}
+use Rattle.promises.proofs.Judgements.{cuttingOf}
+use Rattle.promises.proofs.ColoursHold.{every-judged, answers-judgements}
 
 -- what is the same but for its direction has the same level
 same-level : (c d : Block) → d ≡ turnedTo c (d .dir) → d .x .rank ≡ c .x .rank
@@ -71,8 +71,8 @@ module _ (a : Asked) {w₀ : World} (z : BegunAs a w₀) where
   decided-then o some {w = w} r right l =
       let p = a .chosen in
       let h = begun-reached a w₀ z in
-      let k = Theory.decided-in-time (coversIn p) (cuttingOf p) false placeOf same-level 48 (p .width) (p .height) (startLevel p)
+      let k = Theory.decided-in-time (coversIn p) (cuttingOf p) false placeOfBlock same-level 48 (p .width) (p .height) (startLevel p)
       (begun-accepted a w₀ z) (one-block a z o) some (in-theory p h r) (queues-children a z o r)
       (each-linked p h (GivesUpBelow (coversIn p) false (λ b. b .x .rank) 48) (λ v v′ vs l. gives-up-low p (o .plane) v v′ vs l) r)
-      (every-judged p h r) (answers-turns p h (DecidedBelow (λ b. b .x .rank) 48) r right) l in
+      (every-judged p h r) (answers-judgements p h (DecidedBelow (λ b. b .x .rank) 48) r right) l in
       (k .0, (λ q e. k .1 q (reads-both p w q readsUncertain .0 e)))

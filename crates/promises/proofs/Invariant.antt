@@ -10,6 +10,7 @@ use lib.ListN.{length, take}
 use lib.ListN as L
 use borrow.Author.Tests.{le-leb, lt-ltb, le-ltb}
 use Rattle.base.proofs.Test.{and-both}
+use Rattle.base.specs.Lists.{Every}
 use Rattle.refusal.specs.declared.Refusal.the-variants as R
 use Rattle.image.specs.Cell.{Cell, meanings, meaningOf, isDamaged}
 use Rattle.image.specs.Painting.{someOf, everyOf}
@@ -23,10 +24,9 @@ use Rattle.queue.proofs.QueueLaws.{BytesHold, queue-is, take-answers}
 use Rattle.decide.specs.declared.Chosen.{Chosen}
 use Rattle.decide.specs.Damage.{undamaged, sound, coveredCells, cellDamaged}
 use Rattle.decide.specs.Children.{childrenOf}
-use Rattle.plan.proofs.Each.{Each}
 use Rattle.implicit.specs.Record.{pixelCount, soundRecord}
 use Rattle.implicit.specs.Listing.{frontOf}
-use Rattle.implicit.specs.Step.{World, refused, unless, enoughVerdicts, blockFine, judged, opened, stepWith}
+use Rattle.implicit.specs.Step.{World, refused, unless, enoughVerdicts, blockSound, judged, afterTaking, stepWith}
 use Rattle.implicit.proofs.RecordLaws.{SoundRecord, sound-record, sound-chosen}
 use Rattle.promises.specs.Chart.{queuedBlocks}
 use Rattle.promises.proofs.CellsKept.{PixelsWhole}
@@ -38,7 +38,7 @@ pub record Keeps (w : World) (q : List Block) : Type 0 where
   pub enough : pixelCount (w .state .chosen) ≤ length (w .cells)
   pub holds : BytesHold (w .state .chosen .set) (w .state .front) (w .state .back) (content (w .ring) (w .state .head) (w .state .used)) q
   pub count : w .state .taken + length q ≡ w .state .queued
-  pub undamaged-all : Each (λ b. undamaged (w .state .chosen) b ≡ true) q
+  pub undamaged-all : Every (λ b. undamaged (w .state .chosen) b ≡ true) q
   pub whole : PixelsWhole (w .state .chosen) (meanings (w .cells))
   pub front-put : Put (w .state .front)
 
@@ -55,7 +55,8 @@ unfolding everyOf someOf
 not-damaged test [] e = refl
 not-damaged test (c ∷ l) e = go (test c) (not-damaged test l) e
   where
-    go : (t : Bool) → (everyOf (λ c. not (test c)) l ≡ true → someOf test l ≡ false) → (not t && everyOf (λ c. not (test c)) l) ≡ true → (t || someOf test l) ≡ false
+    go : (t : Bool) → (everyOf (λ c. not (test c)) l ≡ true → someOf test l ≡ false) → (not t && everyOf (λ c. not (test c)) l) ≡ true
+        → (t || someOf test l) ≡ false
     go true ih h = let z : _≡_ {A = ℕ} 0 1 = cc in absurd (omega arith)
     go false ih h = ih h
 
@@ -101,7 +102,7 @@ module _ (w : World) (c : Block) (rest : List Block) (k : Keeps w (c ∷ rest)) 
   pub block-sound : sound (w .state .chosen) c ≡ true
   block-sound = and-both _ _ (sound-chosen (length (w .ring)) (w .state) (k .sound-record)) (k .undamaged-all .0)
 
-  pub fine : blockFine (w .state .chosen) (w .cells) c ≡ true
+  pub fine : blockSound (w .state .chosen) (w .cells) c ≡ true
   fine =
       and-both (undamaged (w .state .chosen) c) (not (cellDamaged (w .state .chosen) c (meanings (w .cells)))) (k .undamaged-all .0)
       (ap not (cells-whole (w .state .chosen) c (meanings (w .cells)) (rw (L.length-map (w .cells) meaningOf) (k .enough)) (k .whole)))
@@ -111,7 +112,7 @@ module _ (w : World) (c : Block) (rest : List Block) (k : Keeps w (c ∷ rest)) 
       → stepWith tape w vs
       ≡ unless R.Verdicts (enoughVerdicts tape (length (childrenOf (w .state .chosen) c)) (length vs))
       (judged w c (remembered c) head′ used′ (take (length (childrenOf (w .state .chosen) c)) vs))
-  unfolding stepWith opened unless
+  unfolding stepWith afterTaking unless
   step-passes tape vs =
       let n : w .state .taken < w .state .queued = omega (arith, k .count) in
       rw (k .sound-record, le-leb (pixelCount (w .state .chosen)) (length (w .cells)) (k .enough), lt-ltb (w .state .taken) (w .state .queued) n, front-is, fine)

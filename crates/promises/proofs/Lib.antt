@@ -2,6 +2,7 @@
 pub mod Promises
 -- the words of the engine and those of `theory`
 pub mod Covering
+pub mod Snapshots
 pub mod Standings
 pub mod CellsKept
 pub mod EventsEach
@@ -31,9 +32,9 @@ pub mod Siblings
 pub mod EnoughRing
 pub mod Moving
 pub mod GoesAlike
--- what the colours mean: a step's turns, the cuts, the question, the theorems
-pub mod TurnsPlaces
-pub mod Turns
+-- what the colours mean: a step's judgements, the cuts, the question, the theorems
+pub mod JudgementPlaces
+pub mod Judgements
 pub mod CutSpans
 pub mod CutWholes
 pub mod CutReals

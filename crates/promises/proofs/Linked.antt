@@ -11,6 +11,7 @@ use lib.Dec.{T}
 use lib.ListN.{length}
 use lib.ListN as L
 use Rattle.base.specs.Event.{queuedBy}
+use Rattle.base.proofs.ListLaws.{every-also}
 use Rattle.theory.specs.Runs.{Snapshot, AcceptedSetup, FinishedStep, FinishedSteps, no-step, one-more, EveryStep, queuedIn}
 use Rattle.theory.specs.Demand3.{anyGivesUp, WasGivenUp}
 use Rattle.image.specs.Cell.{meanings, meaningOf}
@@ -20,19 +21,19 @@ use Rattle.decide.specs.Damage.{sound}
 use Rattle.decide.specs.Children.{childrenOf}
 use Rattle.decide.specs.Verdict.{allLegal}
 use Rattle.plan.specs.Plan.{outcomes, eventsFor}
-use Rattle.plan.proofs.Each.{each-also}
 use Rattle.decide.proofs.DamageLaws.{is-sound}
 use Rattle.plan.proofs.ChildLaws.{ChildPlace, children-placed}
 use Rattle.plan.proofs.EventLaws.{EachEvent, events-narrower}
 use Rattle.implicit.specs.declared.state.State.{State}
 use Rattle.implicit.specs.Record.{pixelCount}
-use Rattle.implicit.specs.Setup.{firstBlocks, startRecord, startedAnswer}
+use Rattle.implicit.specs.Setup.{firstBlocks, startRecord, setupAnswer}
 use Rattle.implicit.specs.Step.{World, finished, outcomesOf, eventsOf, newBlocks, worldLeft, stepOf}
 use Rattle.implicit.proofs.Numbers.{ready-by-number}
 use Rattle.implicit.proofs.SetupLawsRefusal.{Accepted}
 use Rattle.implicit.proofs.StepLawsWent.{step-stays}
-use Rattle.promises.specs.Chart.{Pixel, coversIn, standingAt, queuedBlocks, snapshotOf}
+use Rattle.promises.specs.Chart.{Pixel, coversIn, queuedBlocks}
 use Rattle.promises.specs.Steps.{Asked, BegunAs, MovesTo, Steps, no-steps, then-step, then-move, gaveUpTaking, GivenUpIn, newTaking, queuedSince}
+use Rattle.promises.proofs.Snapshots.{standingAt, snapshotOf}
 use Rattle.promises.proofs.Covering.{Level, all-narrower}
 use Rattle.promises.proofs.CellsKept.{standing-after}
 use Rattle.promises.proofs.EventsEach.{events-each}
@@ -73,7 +74,7 @@ module _ (w : World) (c : Block) (rest : List Block) (k : Keeps w (c ∷ rest)) 
   events-level : EachEvent Level (eventsOf w c vs)
   events-level =
       events-each Level (λ d n h. h) (w .state .chosen) c (childrenOf (w .state .chosen) c) (outcomesOf w c vs)
-      (each-also (ChildPlace (w .state .chosen) c) Level (λ d h. h .ranks) (childrenOf (w .state .chosen) c) (children-placed (w .state .chosen) c (block-sound w c rest k)))
+      (every-also (ChildPlace (w .state .chosen) c) Level (λ d h. h .ranks) (childrenOf (w .state .chosen) c) (children-placed (w .state .chosen) c (block-sound w c rest k)))
 
   pub linked : (left : World) (evals bytes : ℕ) → stepOf w vs ≡ finished left evals bytes → Linked (w .state .chosen) w vs left
   linked left evals bytes e =
@@ -90,10 +91,10 @@ module _ (w : World) (c : Block) (rest : List Block) (k : Keeps w (c ∷ rest)) 
           events = eventsOf w c vs;
           at-front = is;
           narrower = all-narrower p c (eventsOf w c vs) front-level events-level (events-narrower p c (block-sound w c rest k) (outcomesOf w c vs));
-          taken′ = ap (λ (v : World). v .state .taken) (t .leaves) ∙ unfold worldLeft in add-one (w .state .taken);
+          taken′ = ap (λ (v : World). v .state .taken) (t .left-is) ∙ unfold worldLeft in add-one (w .state .taken);
           queue′ = keeps-queue left (rest ++ newBlocks w c vs) k′;
           cells′ = λ q.
-              ap (λ (v : World). standingAt p (meanings (v .cells)) q) (t .leaves)
+              ap (λ (v : World). standingAt p (meanings (v .cells)) q) (t .left-is)
               ∙ rw (left-cells w c rest k vs (t .room) (t .numbers), ← number) (standing-after p c front-level (w .state .taken) q (w .state .queued) (eventsOf w c vs) (meanings (w .cells)) enough events-level);
         };
         events-are = refl;
@@ -209,7 +210,7 @@ module _ (a : Asked) (w : World) (z : BegunAs a w) where
   pub begun-by : Begins (a .chosen) (a .ranges) (a .ring) (a .cells) (w .state)
   begun-by =
       begins (a .chosen) (a .ranges) (a .ring) (a .cells) (w .state)
-      (ready-by-number (startedAnswer (a .chosen) (a .ranges) (length (a .ring)) (length (a .cells))) (w .state) (z .accepted) (z .state))
+      (ready-by-number (setupAnswer (a .chosen) (a .ranges) (length (a .ring)) (length (a .cells))) (w .state) (z .accepted) (z .state))
 
   -- what it has passed, and what it queued
   pub begun-passed : Accepted (a .chosen) (a .ranges) (length (a .ring)) (length (a .cells))

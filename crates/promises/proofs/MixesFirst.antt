@@ -15,34 +15,27 @@ use Rattle.queue.specs.declared.Block.{Block}
 use Rattle.queue.specs.declared.directions.Direction.{Direction}
 use Rattle.queue.specs.declared.directions.Direction.the-variants as D
 use Rattle.queue.specs.Directions.{inUse}
-use Rattle.queue.specs.Block.{wholeLine, isInteger, parameterOf, withParameter, settledAt}
+use Rattle.queue.specs.Block.{wholeLine, isInteger, parameterOf, withParameter, asQueuedAt}
 use Rattle.queue.specs.Code.{legalIfUsed}
 use Rattle.decide.specs.declared.Chosen.{Chosen}
 use Rattle.implicit.specs.declared.state.Ranges.{Ranges}
 use Rattle.implicit.specs.Setup.{startLevel, rootBlock, eachCutFirst, cutFirstIn, firstBlocks, rangesLegal}
 use Rattle.implicit.proofs.SetupLawsLevel.{level-width, level-height}
-use Rattle.implicit.proofs.SetupLawsFirst.{legal-ranges}
-use Rattle.theory.specs.Lists.{Some}
+use Rattle.implicit.proofs.SetupLawsFirst.{legal-ranges, with-same}
 use Rattle.theory.specs.Levels.{placeAt}
 use Rattle.theory.specs.Cuts.{InSpan, FromEnd, UpToEnd, OverEnd, UnderEnd, Owes}
 use Rattle.theory.specs.Positions.{PlaceHolds}
 use Rattle.theory.specs.Colours.{Question, Holds}
-use Rattle.theory.proofs.ListLaws.{some-left, some-right, some-mono, some-map}
+use Rattle.base.specs.Lists.{Some}
+use Rattle.base.proofs.ListLaws.{some-left, some-right, some-mono, some-map}
 use Rattle.theory.proofs.Theorems.{first-block-holds}
-use Rattle.promises.specs.Chart.{Pixel, placeOf, coversIn}
+use Rattle.promises.specs.Chart.{Pixel, placeOfBlock, coversIn}
 use Rattle.promises.specs.Mixes.{Measures, Mix, wholeOf, endBy, LiesIn, HeldIn, rangeOf, questionOf}
 use Rattle.promises.proofs.CutSpans.{span-put}
 use Rattle.promises.proofs.CutWholes.{whole-put}
 use Rattle.promises.proofs.CutReals.{first-real-holds}
 use Rattle.promises.proofs.CutIntegers.{first-integer-holds}
 use Rattle.promises.proofs.MixesSplit.{units-put}
-
-with-same : (b : Block) (d : Direction) → withParameter b d (parameterOf b d) ≡ b
-with-same b D.XY = refl
-with-same b D.M = refl
-with-same b D.N = refl
-with-same b D.Theta = refl
-with-same b D.T = refl
 
 module _ (M : Measures) (a : Mix M) where
   -- ---- one parameter
@@ -79,11 +72,11 @@ module _ (M : Measures) (a : Mix M) where
 
   -- the blocks of a list that are not cut along d yet, cut first along it where it is used
   module _ (set : ℕ) (d : Direction) (range : Interval) (first : inUse set d ≡ true → FirstHeld d (putInterval range)) (P R : Block → Type 0)
-      (uncut : (b : Block) → P b → parameterOf b d ≡ settledAt (inUse set d) range) (cut : (b : Block) (u : Interval) → P b → HeldIn M d u a → R (withParameter b d u)) where
+      (uncut : (b : Block) → P b → parameterOf b d ≡ asQueuedAt (inUse set d) range) (cut : (b : Block) (u : Interval) → P b → HeldIn M d u a → R (withParameter b d u)) where
     one-block : inUse set d ≡ true → (b : Block) → P b → Some R (map (withParameter b d) (firstCut (parameterOf b d) (isInteger d)))
     unfolding FirstHeld
     one-block e b h =
-        let g : parameterOf b d ≡ putInterval range = uncut b h ∙ ap (λ (t : Bool). settledAt t range) e in
+        let g : parameterOf b d ≡ putInterval range = uncut b h ∙ ap (λ (t : Bool). asQueuedAt t range) e in
         rw g
         (some-map R (withParameter b d) (firstCut (putInterval range) (isInteger d))
         (some-mono (λ u. HeldIn M d u a) (λ u. R (withParameter b d u)) (firstCut (putInterval range) (isInteger d)) (λ u k. cut b u h k) (first e)))
@@ -96,7 +89,7 @@ module _ (M : Measures) (a : Mix M) where
 
     as-it-is : inUse set d ≡ false → (b : Block) → P b → R b
     as-it-is e b h =
-        let g : parameterOf b d ≡ wholeLine = uncut b h ∙ ap (λ (t : Bool). settledAt t range) e in
+        let g : parameterOf b d ≡ wholeLine = uncut b h ∙ ap (λ (t : Bool). asQueuedAt t range) e in
         rw (with-same b d) at (cut b (parameterOf b d) h (rw g (line-held d)))
 
     one-cut : (l : List Block) → Some P l → Some R (cond (inUse set d) (eachCutFirst d l) l)
@@ -118,17 +111,18 @@ module _ (M : Measures) (a : Mix M) where
       k = startLevel p
 
       -- a used range, put, is cut without loss
-      used-first : (d : Direction) → (d ≡ D.XY → ⊥) → InFormat (rangeOf r d) → legalIfUsed (p .set) d (rangeOf r d) ≡ true → inUse (p .set) d ≡ true → FirstHeld d (putInterval (rangeOf r d))
+      used-first : (d : Direction) → (d ≡ D.XY → ⊥) → InFormat (rangeOf r d) → legalIfUsed (p .set) d (rangeOf r d) ≡ true
+          → inUse (p .set) d ≡ true → FirstHeld d (putInterval (rangeOf r d))
       used-first d n f l u =
           let g : legalInterval (rangeOf r d) (isInteger d) ≡ true = rw u at l in
           first-held d (putInterval (rangeOf r d)) (put-format (rangeOf r d) f) (put-legal (rangeOf r d) (isInteger d) ∙ g) (lies-put d (rangeOf r d) (given d u)) n
 
       -- at the root's place, and the parameters before and after their cuts
       abbrev AtRoot : Block → Type 0
-      AtRoot b = placeOf b ≡ placeAt 0 0 (48 + k)
+      AtRoot b = placeOfBlock b ≡ placeAt 0 0 (48 + k)
 
       abbrev Uncut : Direction → Block → Type 0
-      Uncut d b = parameterOf b d ≡ settledAt (inUse (p .set) d) (rangeOf r d)
+      Uncut d b = parameterOf b d ≡ asQueuedAt (inUse (p .set) d) (rangeOf r d)
 
       abbrev Cut : Direction → Block → Type 0
       Cut d b = HeldIn M d (parameterOf b d) a
@@ -152,7 +146,7 @@ module _ (M : Measures) (a : Mix M) where
       all-cut-holds : (b : Block) → Stage₄ b → Holds (coversIn p) Q a q b
       unfolding Holds PlaceHolds
       all-cut-holds b h =
-          let z : PlaceHolds 48 (M .LiesX) (M .LiesY) (a .x) (a .y) q (placeOf b) =
+          let z : PlaceHolds 48 (M .LiesX) (M .LiesY) (a .x) (a .y) q (placeOfBlock b) =
           subst (PlaceHolds 48 (M .LiesX) (M .LiesY) (a .x) (a .y) q) (sym (h .0))
           (first-block-holds (p .width) (p .height) 48 (M .LiesX) (M .ruler-x) (M .LiesY) (M .ruler-y) k (level-width p wide high) (level-height p wide high) q (a .x) (a .y) (at .0) (at .1)) in
           ((z .0, (h .1, h .2, h .3, h .4)), z .1)

@@ -24,27 +24,26 @@ use Rattle.queue.specs.Block.{isInteger, parameterOf, withParameter}
 use Rattle.decide.specs.declared.Chosen.{Chosen}
 use Rattle.decide.specs.Damage.{sound, directionOf}
 use Rattle.decide.specs.Children.{quartersOf, beginsInside, keptInside, childrenXY, childrenCut, childrenAlong, childrenOf}
-use Rattle.plan.proofs.Each.{Each, each-also}
 use Rattle.decide.proofs.ListingLaws.{cut-along}
 use Rattle.plan.proofs.PlaceLaws.{each-kept}
 use Rattle.plan.proofs.ChildLaws.{Fine, direction-in-use}
 use Rattle.implicit.specs.declared.state.Ranges.{Ranges}
-use Rattle.theory.specs.Lists.{Some}
 use Rattle.theory.specs.Colours.{Question, Holds, LosesNothing}
 use Rattle.theory.specs.Positions.{PlaceHolds}
 use Rattle.theory.specs.Shapes.{quarters}
-use Rattle.theory.proofs.ListLaws.{some-mono, some-map}
+use Rattle.base.specs.Lists.{Some, Every}
+use Rattle.base.proofs.ListLaws.{some-mono, some-map, every-also}
 use Rattle.theory.proofs.Theorems.{quarters-lose-nothing}
-use Rattle.promises.specs.Chart.{Pixel, placeOf, coversIn}
+use Rattle.promises.specs.Chart.{Pixel, placeOfBlock, coversIn}
 use Rattle.promises.specs.Mixes.{Measures, Mix, HeldIn, HeldBy, questionOf}
-use Rattle.promises.proofs.TurnsPlaces.{children-places}
-use Rattle.promises.proofs.Turns.{cuttingOf, same-covers-in}
+use Rattle.promises.proofs.JudgementPlaces.{children-places}
+use Rattle.promises.proofs.Judgements.{cuttingOf, same-covers-in}
 use Rattle.promises.proofs.CutSpans.{some-of-map}
 use Rattle.promises.proofs.CutReals.{later-real-holds}
 use Rattle.promises.proofs.CutIntegers.{later-integer-holds}
 
 -- what holds of each member, and what of one
-some-each : {A : Type 0} (P Q R : A → Type 0) → ((a : A) → P a → Q a → R a) → (l : List A) → Each P l → Some Q l → Some R l
+some-each : {A : Type 0} (P Q R : A → Type 0) → ((a : A) → P a → Q a → R a) → (l : List A) → Every P l → Some Q l → Some R l
 unfolding Some
 some-each P Q R f [] h k = k
 some-each P Q R f (a ∷ l) h (inl k) = inl (f a (h .0) k)
@@ -71,7 +70,7 @@ module _ (M : Measures) where
   held-with D.Theta b u a h k = (h .0, h .1, k, h .3)
   held-with D.T b u a h k = (h .0, h .1, h .2, k)
 
-  pub place-with : (d : Direction) (b : Block) (u : Interval) → placeOf (withParameter b d u) ≡ placeOf b
+  pub place-with : (d : Direction) (b : Block) (u : Interval) → placeOfBlock (withParameter b d u) ≡ placeOfBlock b
   place-with D.XY b u = refl
   place-with D.M b u = refl
   place-with D.N b u = refl
@@ -110,13 +109,13 @@ module _ (M : Measures) where
           (later-held d v (z .format) (z .legal) a (held-along d b a (h .0 .1)))))
 
       -- along xy the parameters stay as they are
-      xy-held : Each (λ c. HeldBy M c a) (childrenXY p b)
+      xy-held : Every (λ c. HeldBy M c a) (childrenXY p b)
       unfolding childrenXY quartersOf Holds
       xy-held =
           let k : HeldBy M b a = h .0 .1 in
-          let four : Each (λ c. HeldBy M c a) (quartersOf b) = (k, (k, (k, (k, tt)))) in
-          by-test (Each (λ c. HeldBy M c a)) (ltb 48 (b .x .rank)) (keptInside p (quartersOf b)) (quartersOf b)
-          (λ e. each-kept p (λ c. HeldBy M c a) (quartersOf b) (each-also (λ c. HeldBy M c a) (λ c. beginsInside p c ≡ true → HeldBy M c a) (λ c l f. l) (quartersOf b) four))
+          let four : Every (λ c. HeldBy M c a) (quartersOf b) = (k, (k, (k, (k, tt)))) in
+          by-test (Every (λ c. HeldBy M c a)) (ltb 48 (b .x .rank)) (keptInside p (quartersOf b)) (quartersOf b)
+          (λ e. each-kept p (λ c. HeldBy M c a) (quartersOf b) (every-also (λ c. HeldBy M c a) (λ c. beginsInside p c ≡ true → HeldBy M c a) (λ c l f. l) (quartersOf b) four))
           (λ e. four)
 
       -- one of the quarters that are listed holds the point as one of the pixel
@@ -124,12 +123,12 @@ module _ (M : Measures) where
       unfolding Holds PlaceHolds
       split-xy e at =
           let up = ltb-true ordinaryFloor (b .x .rank) (cut-along p b D.XY ok e refl) in
-          let listed : map placeOf (childrenXY p b) ≡ quarters 48 (p .width) (p .height) (placeOf b) = sym (ap (map placeOf) (children-are e)) ∙ children-places p b ok e in
-          let s : Some (PlaceHolds 48 (M .LiesX) (M .LiesY) (a .x) (a .y) q) (map placeOf (childrenXY p b)) =
+          let listed : map placeOfBlock (childrenXY p b) ≡ quarters 48 (p .width) (p .height) (placeOfBlock b) = sym (ap (map placeOfBlock) (children-are e)) ∙ children-places p b ok e in
+          let s : Some (PlaceHolds 48 (M .LiesX) (M .LiesY) (a .x) (a .y) q) (map placeOfBlock (childrenXY p b)) =
           rw listed
-          (quarters-lose-nothing (p .width) (p .height) 48 (M .LiesX) (M .ruler-x) (M .LiesY) (M .ruler-y) q (a .x) (a .y) (placeOf b) (omega arith) (at .0) (at .1) (h .0 .0, h .1)) in
-          some-each (λ c. HeldBy M c a) (λ c. PlaceHolds 48 (M .LiesX) (M .LiesY) (a .x) (a .y) q (placeOf c)) (Holds (coversIn p) Q a q) (λ c k l. ((l .0, k), l .1)) (childrenXY p b) xy-held
-          (some-of-map (PlaceHolds 48 (M .LiesX) (M .LiesY) (a .x) (a .y) q) placeOf (childrenXY p b) s)
+          (quarters-lose-nothing (p .width) (p .height) 48 (M .LiesX) (M .ruler-x) (M .LiesY) (M .ruler-y) q (a .x) (a .y) (placeOfBlock b) (omega arith) (at .0) (at .1) (h .0 .0, h .1)) in
+          some-each (λ c. HeldBy M c a) (λ c. PlaceHolds 48 (M .LiesX) (M .LiesY) (a .x) (a .y) q (placeOfBlock c)) (Holds (coversIn p) Q a q) (λ c k l. ((l .0, k), l .1)) (childrenXY p b) xy-held
+          (some-of-map (PlaceHolds 48 (M .LiesX) (M .LiesY) (a .x) (a .y) q) placeOfBlock (childrenXY p b) s)
         where
           children-are : directionOf p b ≡ A.Along D.XY → childrenOf p b ≡ childrenXY p b
           children-are e = unfold childrenOf in rw (ok, e)

@@ -22,8 +22,9 @@ use Rattle.implicit.specs.Record.{refusedUnless, soundRecord}
 use Rattle.implicit.specs.Step.{World}
 use Rattle.implicit.specs.Move.{movedRecord, movedWorld, notMoved, moved, moveOf}
 use Rattle.implicit.proofs.RecordLaws.{SoundRecord, sound-record, record-sound}
-use Rattle.promises.specs.Chart.{queuedBlocks, snapshotOf}
+use Rattle.promises.specs.Chart.{queuedBlocks}
 use Rattle.promises.specs.Steps.{MovesTo, to-ring}
+use Rattle.promises.proofs.Snapshots.{snapshotOf}
 use Rattle.promises.proofs.Invariant.{Keeps, keeps-queue}
 
 -- what is kept where the blocks q are queued: the invariant with these blocks, what was chosen, what the cells mean, the blocks taken and the bytes used

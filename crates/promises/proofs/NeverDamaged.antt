@@ -23,16 +23,16 @@ use Rattle.queue.specs.Block.{remembered}
 use Rattle.decide.specs.declared.Chosen.{Chosen}
 use Rattle.decide.specs.Children.{childrenOf}
 use Rattle.implicit.specs.declared.state.State.{State}
-use Rattle.implicit.specs.declared.state.Drawn.the-variants as Drawn
+use Rattle.implicit.specs.declared.state.CallAnswer.the-variants as CallAnswer
 use Rattle.implicit.specs.declared.state.Ending.{Ending}
 use Rattle.implicit.specs.declared.state.Ending.the-variants as E
 use Rattle.implicit.specs.Record.{refusedUnless, pixelCount, pixelCells, soundRecord}
 use Rattle.implicit.specs.Listing.{listedBlock, childrenListed}
 use Rattle.implicit.specs.Step.{World, StepEnd, finished, unless, newBlocks, newBytes, judged, stepWith, stepOf, stepAnswer}
-use Rattle.implicit.specs.Run.{RunEnd, RunAnswer, notRun, hasRun, runOf, runAnswer}
+use Rattle.implicit.specs.Run.{RunEnd, RunResult, notRun, hasRun, runOf, runAnswer}
 use Rattle.implicit.specs.Move.{movedWorld, notMoved, moved, moveOf}
 use Rattle.implicit.specs.View.{pictureAnswer, countsAnswer}
-use Rattle.implicit.specs.Answers.{stepNumber, stopNumber, runNumber, runStop, childrenNumber, drawnNumber, countsNumber}
+use Rattle.implicit.specs.Answers.{stepNumber, stopNumber, runNumber, runStop, childrenNumber, callNumber, countsNumber}
 use Rattle.implicit.proofs.RecordLaws.{sound-record}
 use Rattle.implicit.proofs.StepLawsWent.{goes}
 use Rattle.promises.specs.Chart.{queuedBlocks}
@@ -45,7 +45,8 @@ use Rattle.promises.proofs.RunSteps.{run-steps, run-stops}
 -- A STEP
 
 -- the number of a step's end, where it is not that of this refusal, is that of what follows
-pub not-by : (s : State) (k : ℕ) (why : Refusal) (t : Bool) (rest : StepEnd) → ¬ (number why ≡ k) → ¬ (stepNumber (stepAnswer s rest) ≡ k) → ¬ (stepNumber (stepAnswer s (unless why t rest)) ≡ k)
+pub not-by : (s : State) (k : ℕ) (why : Refusal) (t : Bool) (rest : StepEnd) → ¬ (number why ≡ k) → ¬ (stepNumber (stepAnswer s rest) ≡ k)
+    → ¬ (stepNumber (stepAnswer s (unless why t rest)) ≡ k)
 unfolding unless
 not-by s k why true rest n m = m
 not-by s k why false rest n m = n
@@ -137,16 +138,16 @@ module _ (w : World) (q : List Block) (k : Keeps w q) where
   enough-test = le-leb (pixelCount (w .state .chosen)) (length (w .cells)) (k .enough)
 
   -- with room it is drawn
-  pub picture-drawn : (room : ℕ) → pixelCount (w .state .chosen) ≤ room → pictureAnswer (w .state) (w .cells) room ≡ Drawn.Done
+  pub picture-drawn : (room : ℕ) → pixelCount (w .state .chosen) ≤ room → pictureAnswer (w .state) (w .cells) room ≡ CallAnswer.Done
   unfolding pictureAnswer
   picture-drawn room h =
       rw (own-ring, enough-test, le-leb (pixelCount (w .state .chosen)) room h, pixels-fine (w .state .chosen) (w .cells) (k .enough) (k .whole))
 
-  picture-not-eight : (room : ℕ) → ¬ (drawnNumber (pictureAnswer (w .state) (w .cells) room) ≡ 8)
+  picture-not-eight : (room : ℕ) → ¬ (callNumber (pictureAnswer (w .state) (w .cells) room) ≡ 8)
   unfolding pictureAnswer
   picture-not-eight room e = go (leb (pixelCount (w .state .chosen)) room) (rw (own-ring, enough-test, pixels-fine (w .state .chosen) (w .cells) (k .enough) (k .whole)) at e)
     where
-      go : (t : Bool) → ¬ (drawnNumber (cond t Drawn.Done (Drawn.Refused R.Picture)) ≡ 8)
+      go : (t : Bool) → ¬ (callNumber (cond t CallAnswer.Done (CallAnswer.Refused R.Picture)) ≡ 8)
       go true f = omega arith
       go false f = omega arith
 
@@ -189,7 +190,7 @@ stop-not-eight p w h budget tape = ran (runOf budget w tape) refl
         let (rest, f) = run-stops budget w tape e why r s in
         step-not-eight true (e .world) (k .blocks) (k .keeps) rest (ap (λ (x : StepEnd). stepNumber (stepAnswer (e .world .state) x)) f ∙ n)
 
-    ran : (a : RunAnswer) → runOf budget w tape ≡ a → ¬ (runStop (runAnswer (w .state) a) ≡ 8)
+    ran : (a : RunResult) → runOf budget w tape ≡ a → ¬ (runStop (runAnswer (w .state) a) ≡ 8)
     ran (notRun why) r n = omega arith
     ran (hasRun e) r n = ended e r (e .ending) refl n
 

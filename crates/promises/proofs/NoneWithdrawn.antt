@@ -11,7 +11,8 @@ use lib.Dec.{T}
 use lib.ListN.{length, getD}
 use Rattle.base.proofs.Test.{≡→T, cases}
 use Rattle.base.specs.Event.{Event, marks}
-use Rattle.theory.specs.Cells.{isTrue}
+use Rattle.base.specs.Lists.{Every}
+use Rattle.theory.specs.Cells.{markedTrue}
 use Rattle.theory.specs.Demand3.{anyGivesUp, LooksBeforeGivingUp, GivesUpOnePixel, GivesUpBelow}
 use Rattle.theory.proofs.Theorems as Theory
 use Rattle.image.specs.Cell.{Cell, Named, meanings, isMarked}
@@ -26,16 +27,16 @@ use Rattle.decide.specs.declared.turn.Turned.{Turned}
 use Rattle.decide.specs.declared.turn.Turned.the-variants as Tu
 use Rattle.decide.specs.declared.verdict.Outcome.{Outcome}
 use Rattle.decide.specs.Children.{childrenOf}
-use Rattle.decide.specs.Verdict.{isMarking, isOpen}
+use Rattle.decide.specs.Verdict.{isMarking, isIncomplete}
 use Rattle.decide.specs.Turn.{turned}
-use Rattle.plan.specs.Plan.{allTrue, outcomes, openCount, markEvents, turnEvent, turnEvents, eventsFor}
-use Rattle.plan.proofs.Each.{Each}
+use Rattle.plan.specs.Plan.{allTrue, outcomes, incompleteCount, markEvents, turnEvent, turnEvents, eventsFor}
 use Rattle.decide.proofs.DamageLaws.{is-sound}
 use Rattle.plan.proofs.PlaceLaws.{Lies, stays, quarters, children-lie}
 use Rattle.plan.proofs.QueuedLaws.{nowhere-floor}
 use Rattle.plan.proofs.EventLaws.{all-true-nothing}
 use Rattle.implicit.specs.Step.{World}
-use Rattle.promises.specs.Chart.{Pixel, placeOf, coversIn, standing, standingAt, snapshotOf}
+use Rattle.promises.specs.Chart.{Pixel, placeOfBlock, coversIn}
+use Rattle.promises.proofs.Snapshots.{standing, standingAt, snapshotOf}
 use Rattle.promises.proofs.Covering.{Level, covers-as}
 use Rattle.promises.proofs.Standings.{not-true-as}
 use Rattle.promises.proofs.Linked.{Linked, linked-events}
@@ -65,7 +66,7 @@ found test t i (c ∷ l) e = go (t i) refl (test c) refl (found test t (suc i) l
 
 -- a block of which not all covered cells are True covers a pixel that is not
 pub not-all-true : (p : Chosen) (b : Block) (l : List Cell) → Level b → p .width * p .height ≤ length l → allTrue p b l ≡ false
-    → (q : Pixel p) × T (coversIn p b q) × (¬ (standingAt p l q ≡ isTrue))
+    → (q : Pixel p) × T (coversIn p b q) × (¬ (standingAt p l q ≡ markedTrue))
 unfolding allTrue heldCells standingAt
 not-all-true p b l even enough e =
     let rect = rectangleOf (b .x) (b .y) (p .width) (p .height) in
@@ -76,8 +77,9 @@ not-all-true p b l even enough e =
       | no m ↦ absurd (true≢false (sym held ∙ beyond-not-held (p .width) (p .height) rect (f .at) (rectangle-in-picture (b .x) (b .y) (p .width) (p .height)) (omega arith)))
     ]
   where
-    pixel : (i : ℕ) → i < p .width * p .height → holdsCell (p .width) (rectangleOf (b .x) (b .y) (p .width) (p .height)) i ≡ true → isMarked (getD l i (Named 0)) ≡ false
-        → (q : Pixel p) × T (coversIn p b q) × (¬ (standing (pixelCell (p .width) (p .height) (q .x) (q .y) l) ≡ isTrue))
+    pixel : (i : ℕ) → i < p .width * p .height → holdsCell (p .width) (rectangleOf (b .x) (b .y) (p .width) (p .height)) i ≡ true
+        → isMarked (getD l i (Named 0)) ≡ false
+        → (q : Pixel p) × T (coversIn p b q) × (¬ (standing (pixelCell (p .width) (p .height) (q .x) (q .y) l) ≡ markedTrue))
     pixel i m held fails =
         let z = cell-pixel (p .width) (p .height) i m in
         let px = i % p .width in
@@ -93,7 +95,8 @@ nothing-given : (es : List (Event Block)) → es ≡ [] → ¬ T (anyGivesUp es)
 unfolding anyGivesUp
 nothing-given es e t = rw e at t
 
-pub looks : (p : Chosen) (w w′ : World) (vs : List ℕ) (l : Linked p w vs w′) → LooksBeforeGivingUp (coversIn p) false (snapshotOf p w) (snapshotOf p w′) (l .step)
+pub looks : (p : Chosen) (w w′ : World) (vs : List ℕ) (l : Linked p w vs w′)
+    → LooksBeforeGivingUp (coversIn p) false (snapshotOf p w) (snapshotOf p w′) (l .step)
 unfolding LooksBeforeGivingUp
 looks p w w′ vs l g =
     let b = l .step .front in
@@ -104,12 +107,12 @@ looks p w w′ vs l g =
 -- WHERE X OR Y IS USED
 
 -- a step that gives up has a child that finds no direction
-given-child : (P : Block → Type 0) (turn : Block → Turned) (cs : List Block) (os : List Outcome) → Each P cs → T (anyGivesUp (turnEvents turn cs os))
+given-child : (P : Block → Type 0) (turn : Block → Turned) (cs : List Block) (os : List Outcome) → Every P cs → T (anyGivesUp (turnEvents turn cs os))
     → (c : Block) × P c × (turn c ≡ Tu.Nowhere)
 unfolding turnEvents anyGivesUp
 given-child P turn [] os h g = absurd g
 given-child P turn (c ∷ cs) [] h g = absurd g
-given-child P turn (c ∷ cs) (o ∷ os) h g = go (isOpen o) (turn c) refl (given-child P turn cs os (h .1)) g
+given-child P turn (c ∷ cs) (o ∷ os) h g = go (isIncomplete o) (turn c) refl (given-child P turn cs os (h .1)) g
   where
     go : (t : Bool) (u : Turned) → turn c ≡ u → (T (anyGivesUp (turnEvents turn cs os)) → (c : Block) × P c × (turn c ≡ Tu.Nowhere))
         → T (anyGivesUp (cond t (turnEvent u ∷ turnEvents turn cs os) (turnEvents turn cs os))) → (c : Block) × P c × (turn c ≡ Tu.Nowhere)
@@ -123,7 +126,8 @@ marks-give-none [] os es = refl
 marks-give-none (c ∷ cs) [] es = refl
 marks-give-none (c ∷ cs) (o ∷ os) es = go (isMarking o) (marks-give-none cs os es)
   where
-    go : (t : Bool) → anyGivesUp (markEvents cs os ++ es) ≡ anyGivesUp es → anyGivesUp (cond t (marks c ∷ markEvents cs os) (markEvents cs os) ++ es) ≡ anyGivesUp es
+    go : (t : Bool) → anyGivesUp (markEvents cs os ++ es) ≡ anyGivesUp es
+        → anyGivesUp (cond t (marks c ∷ markEvents cs os) (markEvents cs os) ++ es) ≡ anyGivesUp es
     go true ih = ih
     go false ih = ih
 
@@ -139,12 +143,12 @@ gives-up-low p u w w′ vs l g =
     let b = l .step .front in
     let cs = childrenOf p b in
     let os = outcomes p (meanings (w .cells)) cs vs in
-    let e : anyGivesUp (l .step .events) ≡ anyGivesUp (turnEvents (turned p b (openCount os)) cs os) =
-    ap anyGivesUp (linked-events p w vs w′ l) ∙ marks-give-none cs os (turnEvents (turned p b (openCount os)) cs os) in
-    let (c, i, n) = given-child (Lies b) (turned p b (openCount os)) cs os (children-lie p b (l .front-sound)) (rw e at g) in
-    low-parent b c i (nowhere-floor p b (openCount os) c u n)
+    let e : anyGivesUp (l .step .events) ≡ anyGivesUp (turnEvents (turned p b (incompleteCount os)) cs os) =
+    ap anyGivesUp (linked-events p w vs w′ l) ∙ marks-give-none cs os (turnEvents (turned p b (incompleteCount os)) cs os) in
+    let (c, i, n) = given-child (Lies b) (turned p b (incompleteCount os)) cs os (children-lie p b (l .front-sound)) (rw e at g) in
+    low-parent b c i (nowhere-floor p b (incompleteCount os) c u n)
 
 pub one-pixel : (p : Chosen) → inUse (p .set) D.XY ≡ true → (w w′ : World) (vs : List ℕ) (l : Linked p w vs w′)
     → GivesUpOnePixel (coversIn p) false (snapshotOf p w) (snapshotOf p w′) (l .step)
 unfolding GivesUpOnePixel GivesUpBelow
-one-pixel p u w w′ vs l g = Theory.low-covers-at-most-one (p .width) (p .height) 48 placeOf (l .step .front) (gives-up-low p u w w′ vs l g)
+one-pixel p u w w′ vs l g = Theory.low-covers-at-most-one (p .width) (p .height) 48 placeOfBlock (l .step .front) (gives-up-low p u w w′ vs l g)

@@ -7,7 +7,6 @@ use Prim.Native.Nat.{ℕ, zero, suc, _<_}
 use lib.Dec.{eqb}
 use lib.ListN.{length}
 use borrow.Author.Tests.{ltb-true}
-use Rattle.theory.specs.Lists.{Every}
 use Rattle.theory.specs.Levels.{QueuesChildren}
 use Rattle.theory.specs.Shapes.{quarters}
 use Rattle.coordinate.specs.Axis.{ordinaryFloor}
@@ -24,15 +23,16 @@ use Rattle.decide.proofs.ListingLaws.{cut-along}
 use Rattle.plan.proofs.EventLaws.{queued-sublist}
 use Rattle.image.specs.Cell.{meanings}
 use Rattle.implicit.specs.Step.{World}
-use Rattle.promises.specs.Chart.{placeOf, coversIn, snapshotOf}
+use Rattle.promises.specs.Chart.{placeOfBlock, coversIn}
 use Rattle.promises.specs.Steps.{PlaneOnly}
+use Rattle.promises.proofs.Snapshots.{snapshotOf}
 use Rattle.promises.proofs.Linked.{Linked, linked-events}
-use Rattle.promises.proofs.TurnsPlaces.{children-places}
+use Rattle.promises.proofs.JudgementPlaces.{children-places}
 
 -- THE ONE DIRECTION
 
 plane-directions : (p : Chosen) → PlaneOnly p → directions (p .set) ≡ D.XY ∷ []
-unfolding directions usedOf Every
+unfolding directions usedOf
 plane-directions p o = rw (o .plane, o .no-parameter .0, o .no-parameter .1 .0, o .no-parameter .1 .1 .0, o .no-parameter .1 .1 .1 .0)
 
 pub plane-along : (p : Chosen) (b : Block) → PlaneOnly p → sound p b ≡ true → directionOf p b ≡ A.Along D.XY
@@ -52,9 +52,9 @@ plane-above p b o ok = ltb-true ordinaryFloor (b .x .rank) (cut-along p b D.XY o
 
 -- A STEP QUEUES NOTHING BUT QUARTERS
 pub plane-queues : (p : Chosen) → PlaneOnly p → (w w′ : World) (vs : List ℕ) (l : Linked p w vs w′)
-    → QueuesChildren (coversIn p) false placeOf (quarters 48 (p .width) (p .height)) (snapshotOf p w) (snapshotOf p w′) (l .step)
+    → QueuesChildren (coversIn p) false placeOfBlock (quarters 48 (p .width) (p .height)) (snapshotOf p w) (snapshotOf p w′) (l .step)
 unfolding QueuesChildren
 plane-queues p o w w′ vs l =
     let b = l .step .front in
     rw (linked-events p w vs w′ l, ← children-places p b (l .front-sound) (plane-along p b o (l .front-sound)))
-    (queued-sublist placeOf p b (λ c d. refl) (childrenOf p b) (outcomes p (meanings (w .cells)) (childrenOf p b) vs))
+    (queued-sublist placeOfBlock p b (λ c d. refl) (childrenOf p b) (outcomes p (meanings (w .cells)) (childrenOf p b) vs))

@@ -1,6 +1,7 @@
 -- WHAT IS PROMISED of the engine. Each promise stands under its sentence; each proof is one line that names the law. To judge the promises one reads this
--- page, document 01 and these definitions: specs/ of this crate (Chart, Steps, Calls, Turns, Mixes, Sentences, EnoughRoom, Alike); specs/ of `implicit` and of
--- the crates under it, which its contracts cite; and of `theory` specs/ Lists, Cells, Runs, Demand3, Levels, Shapes, Colours, Positions and Cuts. No proof file.
+-- page, document 01 and these definitions: specs/ of this crate (Chart, Steps, Calls, Judgements, Mixes, Sentences, EnoughRoom, Alike); specs/ of
+-- `implicit` and of the crates under it, which its contracts cite; and of `theory` specs/ Demand3, Levels, Shapes, Colours, Positions and Cuts, as far
+-- as these name it. No proof file.
 --
 -- The conditions, for all but the runs: a setup was called with `a`, was accepted, and left the world w₀ (BegunAs); each step was finished on the record,
 -- ring and cells that the setup, the step or the move before it left, so nobody else wrote there (Steps). Moves stand anywhere among the steps (MovesTo): the
@@ -12,45 +13,46 @@ use mathlib.Core.List.{List, [], _∷_, map, _++_}
 use Prim.Native.Nat.{ℕ, suc, _+_, _*_, _^_, _≤_, _<_}
 use lib.Dec.{T}
 use lib.ListN.{length, take, getD}
+use Rattle.base.specs.Lists.{Every, Some}
 use Rattle.refusal.specs.declared.Refusal.{Refusal}
 use Rattle.interval.specs.Bounds.{InFormat}
 use Rattle.coordinate.specs.Axis.{places}
 use Rattle.image.specs.declared.Reading.the-variants as Reads
 use Rattle.image.specs.Cell.{byteOf}
 use Rattle.image.specs.Range.{cellIndex}
-use Rattle.theory.specs.Lists.{Every, Some}
 use Rattle.theory.specs.Levels.{NeverRise, OnTwoLevels, sumTo, placesAlong}
 use Rattle.theory.specs.Colours.{Question, HasSolution, FalseRight, MarkRight, DecidedBelow}
 use Rattle.queue.specs.declared.Block.{Block}
 use Rattle.decide.specs.declared.Chosen.{Chosen}
 use Rattle.implicit.specs.declared.state.Ranges.{Ranges}
 use Rattle.implicit.specs.declared.state.State.{State}
-use Rattle.implicit.specs.declared.state.Started.{Started}
-use Rattle.implicit.specs.declared.state.Started.the-variants as Started
-use Rattle.implicit.specs.declared.state.Stepped.{Stepped}
-use Rattle.implicit.specs.declared.state.Stepped.the-variants as Stepped
+use Rattle.implicit.specs.declared.state.SetupAnswer.{SetupAnswer}
+use Rattle.implicit.specs.declared.state.SetupAnswer.the-variants as SetupAnswer
+use Rattle.implicit.specs.declared.state.StepAnswer.{StepAnswer}
+use Rattle.implicit.specs.declared.state.StepAnswer.the-variants as StepAnswer
 use Rattle.implicit.specs.declared.state.Ending.{Ending}
-use Rattle.implicit.specs.declared.state.Ran.{Ran}
-use Rattle.implicit.specs.declared.state.Ran.the-variants as Ran
-use Rattle.implicit.specs.declared.state.Moved.{Moved}
-use Rattle.implicit.specs.declared.state.Moved.the-variants as Moved
-use Rattle.implicit.specs.declared.state.Drawn.{Drawn}
+use Rattle.implicit.specs.declared.state.RunAnswer.{RunAnswer}
+use Rattle.implicit.specs.declared.state.RunAnswer.the-variants as RunAnswer
+use Rattle.implicit.specs.declared.state.MoveAnswer.{MoveAnswer}
+use Rattle.implicit.specs.declared.state.MoveAnswer.the-variants as MoveAnswer
+use Rattle.implicit.specs.declared.state.CallAnswer.{CallAnswer}
 use Rattle.implicit.specs.Record.{pixelCount}
-use Rattle.implicit.specs.Setup.{startLevel, cleared, startedAnswer, ringBegun, cellsBegun}
+use Rattle.implicit.specs.Setup.{startLevel, cleared, setupAnswer, ringBegun, cellsBegun}
 use Rattle.implicit.specs.Step.{World, worldOf, finished, stepOf, stepAnswer, EndsAs}
 use Rattle.implicit.specs.Run.{RunEnd, hasRun, runOf, RunsAs}
-use Rattle.implicit.specs.View.{pictureLeft, pictureAnswer, ifDrawn}
+use Rattle.implicit.specs.View.{pictureLeft, pictureAnswer, ifDone}
 use Rattle.refusal.specs.Number.{number}
 use Rattle.queue.specs.Ring.{content}
 use Rattle.queue.specs.Queue.{queueCodes}
-use Rattle.implicit.specs.declared.state.Needed.the-variants as N
+use Rattle.implicit.specs.declared.state.NeededAnswer.the-variants as N
 use Rattle.implicit.specs.Room.{enoughBytes, enoughRing}
 use Rattle.implicit.specs.Move.{movedWorld, notMoved, moved, moveOf, MovesAs}
-use Rattle.implicit.specs.Answers.{stepNumber, drawnNumber}
-use Rattle.promises.specs.Chart.{Pixel, placeOf, coversIn, queuedBlocks}
-use Rattle.promises.specs.Steps.{Asked, BegunAs, MovesTo, Steps, NoMove, verdictsOf, evaluationsOf, readsIn, GivenUpIn, StandsGivenUp, PlaneOnly, LegalVerdicts, WrongCount, SomeIllegal, Suffices, NeverEight}
+use Rattle.implicit.specs.Answers.{stepNumber, callNumber}
+use Rattle.promises.specs.Chart.{Pixel, placeOfBlock, coversIn, queuedBlocks}
+use Rattle.promises.specs.Steps.{Asked, BegunAs, MovesTo, Steps, NoMove, verdictsOf, evaluationsOf, readsIn, GivenUpIn, StandsGivenUp}
+use Rattle.promises.specs.Steps.{PlaneOnly, LegalVerdicts, WrongCount, SomeIllegal, Suffices, NeverEight}
 use Rattle.promises.specs.Calls.{askedBy, ranTo}
-use Rattle.promises.specs.Turns.{EveryAnswer}
+use Rattle.promises.specs.Judgements.{EveryAnswer}
 use Rattle.promises.specs.Mixes.{Measures, Mix, questionOf}
 use Rattle.promises.specs.Sentences.{FalseRule, FalseStays, LeavesAfter, PixelBound, WhiteMeansNo}
 use Rattle.promises.specs.EnoughRoom.{NeverSix, RunsPastSix}
@@ -75,37 +77,37 @@ use Rattle.promises.proofs.Screen.{white-shown, white-both, run-sums}
 -- the cells; r is the answer. The hypotheses are the `ensures` of `setup`, `step` and `run`, and what they say then is what the promises ask for
 
 -- setup, where it answers a record: a chart is begun. (The bounds handed in are values of f64, as every f64 is; the reserved bytes are read as 0.)
-pub setup-answered : (chosen : Chosen) (ranges : Ranges) (ring cells ring′ cells′ : List ℕ) (r : Started)
+pub setup-answered : (chosen : Chosen) (ranges : Ranges) (ring cells ring′ cells′ : List ℕ) (r : SetupAnswer)
     → InFormat (ranges .m) × InFormat (ranges .n) × InFormat (ranges .theta) × InFormat (ranges .t)
-    → r ≡ startedAnswer (cleared chosen) ranges (length ring) (length cells)
+    → r ≡ setupAnswer (cleared chosen) ranges (length ring) (length cells)
     → ring′ ≡ ringBegun (cleared chosen) ranges ring cells
     → cells′ ≡ cellsBegun (cleared chosen) ranges ring cells
-    → (s : State) → r ≡ Started.Ready s → BegunAs (askedBy chosen ranges ring cells) (worldOf s ring′ cells′)
+    → (s : State) → r ≡ SetupAnswer.Ready s → BegunAs (askedBy chosen ranges ring cells) (worldOf s ring′ cells′)
 setup-answered = setup-begins
 
 -- step, where it answers that it is finished: one step more, under these verdicts, at so many evaluations;
-pub step-answered : (s : State) (ring cells verdicts ring′ cells′ : List ℕ) (r : Stepped)
+pub step-answered : (s : State) (ring cells verdicts ring′ cells′ : List ℕ) (r : StepAnswer)
     → EndsAs (worldOf s ring cells) (stepOf (worldOf s ring cells) verdicts) r ring′ cells′
-    → (s′ : State) (evals bytes : ℕ) → r ≡ Stepped.Finished s′ evals bytes → {n : ℕ} {w₀ : World} (c : Steps n w₀ (worldOf s ring cells))
+    → (s′ : State) (evals bytes : ℕ) → r ≡ StepAnswer.Finished s′ evals bytes → {n : ℕ} {w₀ : World} (c : Steps n w₀ (worldOf s ring cells))
     → (d : Steps (suc n) w₀ (worldOf s′ ring′ cells′)) × (verdictsOf d ≡ verdictsOf c ++ verdicts) × (evaluationsOf d ≡ evaluationsOf c + evals)
 step-answered = step-counts
 
 -- where it answers a refusal, the record, the ring and the cells are those given, so the next step goes on from there
-pub step-refused : (s : State) (ring cells verdicts ring′ cells′ : List ℕ) (r : Stepped)
+pub step-refused : (s : State) (ring cells verdicts ring′ cells′ : List ℕ) (r : StepAnswer)
     → EndsAs (worldOf s ring cells) (stepOf (worldOf s ring cells) verdicts) r ring′ cells′
-    → (why : Refusal) (s′ : State) → r ≡ Stepped.Refused why s′ → worldOf s′ ring′ cells′ ≡ worldOf s ring cells
+    → (why : Refusal) (s′ : State) → r ≡ StepAnswer.Refused why s′ → worldOf s′ ring′ cells′ ≡ worldOf s ring cells
 step-refused = step-keeps-all
 
 -- run, where it answers how it ended: it is the run that `run-reaches`, further down, takes apart into steps
-pub run-answered : (s : State) (ring cells tape ring′ cells′ : List ℕ) (budget : ℕ) (r : Ran)
+pub run-answered : (s : State) (ring cells tape ring′ cells′ : List ℕ) (budget : ℕ) (r : RunAnswer)
     → RunsAs (worldOf s ring cells) (runOf budget (worldOf s ring cells) tape) r ring′ cells′
-    → (s′ : State) (steps evals bytes : ℕ) (ending : Ending) → r ≡ Ran.Ended s′ steps evals bytes ending
+    → (s′ : State) (steps evals bytes : ℕ) (ending : Ending) → r ≡ RunAnswer.Ended s′ steps evals bytes ending
     → runOf budget (worldOf s ring cells) tape ≡ hasRun (ranTo s′ ring′ cells′ steps evals bytes ending)
 run-answered = run-ends
 
 -- move_queue, where it answers a record: the chart is moved, with the cells that it has
-pub move-answered : (s : State) (ring cells other other′ : List ℕ) (r : Moved) → MovesAs s ring other r other′
-    → (s′ : State) → r ≡ Moved.Done s′ → MovesTo (worldOf s ring cells) (worldOf s′ other′ cells)
+pub move-answered : (s : State) (ring cells other other′ : List ℕ) (r : MoveAnswer) → MovesAs s ring other r other′
+    → (s′ : State) → r ≡ MoveAnswer.Done s′ → MovesTo (worldOf s ring cells) (worldOf s′ other′ cells)
 move-answered = move-moves
 
 module _ (a : Asked) {w₀ : World} (z : BegunAs a w₀) where
@@ -120,8 +122,8 @@ module _ (a : Asked) {w₀ : World} (z : BegunAs a w₀) where
   false-stays = false-kept a z
 
   -- "A block with d blocks before it has left the queue after d + 1 further finished steps."
-  pub leaves : LeavesAfter a w₀
-  leaves = left-behind a z
+  pub leaves-queue : LeavesAfter a w₀
+  leaves-queue = left-behind a z
 
   -- "If x or y is used and there is no parameter, then once the finished steps reach the sum, over j from 1 to the start level, of ceil(width / 2^j) times
   -- ceil(height / 2^j), no queued block covers more than one pixel."
@@ -141,11 +143,13 @@ module _ (a : Asked) {w₀ : World} (z : BegunAs a w₀) where
   refused-only {w = w} r = right-only (a .chosen) w (steps-reached (a .chosen) (begun-reached a w₀ z) r)
 
   -- where a block is queued, verdicts in another number than its children are refused by 4 and nothing else,
-  pub refused-by-4 : {n : ℕ} {w : World} → Steps n w₀ w → (vs : List ℕ) → WrongCount w vs (queuedBlocks w) → stepNumber (stepAnswer (w .state) (stepOf w vs)) ≡ 4
+  pub refused-by-4 : {n : ℕ} {w : World} → Steps n w₀ w → (vs : List ℕ) → WrongCount w vs (queuedBlocks w)
+      → stepNumber (stepAnswer (w .state) (stepOf w vs)) ≡ 4
   refused-by-4 {w = w} r = wrong-only (a .chosen) w (steps-reached (a .chosen) (begun-reached a w₀ z) r)
 
   -- and those in the right number that are not all legal by 5 and nothing else;
-  pub refused-by-5 : {n : ℕ} {w : World} → Steps n w₀ w → (vs : List ℕ) → SomeIllegal w vs (queuedBlocks w) → stepNumber (stepAnswer (w .state) (stepOf w vs)) ≡ 5
+  pub refused-by-5 : {n : ℕ} {w : World} → Steps n w₀ w → (vs : List ℕ) → SomeIllegal w vs (queuedBlocks w)
+      → stepNumber (stepAnswer (w .state) (stepOf w vs)) ≡ 5
   refused-by-5 {w = w} r = illegal-only (a .chosen) w (steps-reached (a .chosen) (begun-reached a w₀ z) r)
 
   -- with legal ones it is finished where a block is queued and numbers and room suffice,
@@ -163,11 +167,11 @@ module _ (a : Asked) {w₀ : World} (z : BegunAs a w₀) where
 
   -- ---- ROOM: a ring that is enough, and a queue that moves to another
 
-  -- "with `enough_ring`'s bytes none of the first n steps from the setup is refused by 6, whatever the verdicts",
+  -- with `enough_ring`'s bytes none of the first n steps from the setup is refused by 6, whatever the verdicts,
   pub never-six : NeverSix a w₀
   never-six = six-never a z
 
-  -- "and no run within these n steps is stopped by 6";
+  -- and no run within these n steps is stopped by 6;
   pub runs-past-six : RunsPastSix a w₀
   runs-past-six = six-stops-none a z
 
@@ -207,7 +211,7 @@ module _ (a : Asked) {w₀ : World} (z : BegunAs a w₀) where
       → readsIn (a .chosen) w′ q ≡ readsIn (a .chosen) w q
   move-keeps-readings {w = w} r = readings-kept (a .chosen) w (reached-by a w₀ z r)
 
-  -- "a chart that was moved equals one that was begun on the other ring, byte for byte but for the ring", if their steps were told the same,
+  -- a chart that was moved equals one that was begun on the other ring, byte for byte but for the ring, if their steps were given the same verdicts,
   pub moved-as-begun : (ring : List ℕ) {v₀ : World} → BegunAs (onRing a ring) v₀ → RingsAlike a w₀ ring v₀
   moved-as-begun = charts-alike a z
 
@@ -232,7 +236,7 @@ module _ (a : Asked) {w₀ : World} (z : BegunAs a w₀) where
       → GivenUpIn (a .chosen) r q ↔ StandsGivenUp (a .chosen) w q
   given-up-now = up-now a z
 
-  -- "Uncertain: given up by a step, or a queued block covers it": so a pixel reads exactly if it isn't True and one of the two holds
+  -- Uncertain is a pixel that was given up by a step, or that a queued block covers: it reads so exactly if it isn't True and one of the two holds
   pub grey-says : {n : ℕ} {w : World} (r : Steps n w₀ w) (q : Pixel (a .chosen))
       → (readsIn (a .chosen) w q ≡ Reads.Uncertain)
       ↔ ((¬ (readsIn (a .chosen) w q ≡ Reads.True)) × (GivenUpIn (a .chosen) r q ⊎ Some (λ b. T (coversIn (a .chosen) b q)) (queuedBlocks w)))
@@ -246,15 +250,15 @@ module _ (a : Asked) {w₀ : World} (z : BegunAs a w₀) where
 
   -- with room for every pixel the picture is drawn, and shows what a pixel reads: its byte stands at the index of the pixel's cell
   pub picture-shows : {n : ℕ} {w : World} → Steps n w₀ w → (out : List ℕ) → pixelCount (a .chosen) ≤ length out → (q : Pixel (a .chosen))
-      → (drawnNumber (pictureAnswer (w .state) (w .cells) (length out)) ≡ 0)
+      → (callNumber (pictureAnswer (w .state) (w .cells) (length out)) ≡ 0)
       × (getD (pictureLeft (w .state) (w .cells) out) (cellIndex (a .chosen .width) (a .chosen .height) (q .x) (q .y)) 0 ≡ byteOf (readsIn (a .chosen) w q))
   picture-shows {w = w} r = drawn (a .chosen) w (steps-reached (a .chosen) (begun-reached a w₀ z) r)
 
   -- ---- LEVELS, with x or y and no parameter; a level stands as its rank, 48 more than document 01's k
 
-  -- "levels never rise from the front of the queue to its back, and at most two neighbouring levels are queued at once"
+  -- "levels never rise from the front of the queue to its back and that at most two neighbouring levels are queued at once"
   pub levels-never-rise : PlaneOnly (a .chosen) → {n : ℕ} {w : World} → Steps n w₀ w
-      → NeverRise (map placeOf (queuedBlocks w)) × ((j : ℕ) × OnTwoLevels j (map placeOf (queuedBlocks w)))
+      → NeverRise (map placeOfBlock (queuedBlocks w)) × ((j : ℕ) × OnTwoLevels j (map placeOfBlock (queuedBlocks w)))
   levels-never-rise = levels-fall a z
 
   -- "once the finished steps reach the number of places on all levels above L, no queued block is above L": of the m levels up to the start level. At
@@ -280,7 +284,7 @@ module _ (a : Asked) {w₀ : World} (z : BegunAs a w₀) where
       → ¬ (sumTo m (λ i. places (a .chosen .width) (L + suc i) * places (a .chosen .height) (L + suc i)) ≤ n)
   never-that-far = too-deep a z
 
-  -- "if everything looked at on a pixel's level or below is decided, no pixel is grey once the steps reach the customer's sum", or the queue is empty before;
+  -- if everything looked at on a pixel's level or below is decided, no pixel is grey once the steps reach the customer's sum, or the queue is empty before;
   -- and nothing is queued then. Of a picture of more than one pixel, whose start level is 1 at least
   pub decided-in-time : PlaneOnly (a .chosen) → 1 ≤ startLevel (a .chosen) → {n : ℕ} {w : World} (r : Steps n w₀ w)
       → EveryAnswer (a .chosen) (DecidedBelow (λ b. b .x .rank) 48) r
@@ -314,41 +318,41 @@ module _ (M : Measures) (Solves : Mix M → Type 0) (a : Asked) {w₀ : World} (
   abbrev Q : Question Block (Pixel (a .chosen))
   Q = questionOf M (a .chosen) (a .ranges) Solves
 
-  -- "if every `false` verdict was right, a pixel that reads False holds no solution"
+  -- if every `false` verdict was right, a pixel that reads False holds no solution
   pub white-means-no : WhiteMeansNo M Solves a w₀
   white-means-no = white-none M Solves a z
 
-  -- "if every mark was right, a pixel that reads True holds one"
+  -- if every mark was right, a pixel that reads True holds one
   pub true-means-yes : {n : ℕ} {w : World} (r : Steps n w₀ w) → EveryAnswer (a .chosen) (MarkRight (coversIn (a .chosen)) Q) r
       → (q : Pixel (a .chosen)) → readsIn (a .chosen) w q ≡ Reads.True → HasSolution Q q
   true-means-yes = true-one M Solves a z
 
-  -- "when the queue is empty, every pixel that is not given up is decided"
+  -- when the queue is empty, every pixel that is not given up is decided
   pub done-decides : {n : ℕ} {w : World} (r : Steps n w₀ w)
       → EveryAnswer (a .chosen) (FalseRight (coversIn (a .chosen)) Q) r → EveryAnswer (a .chosen) (MarkRight (coversIn (a .chosen)) Q) r
       → queuedBlocks w ≡ [] → (q : Pixel (a .chosen)) → ¬ StandsGivenUp (a .chosen) w q
       → ((readsIn (a .chosen) w q ≡ Reads.True) × HasSolution Q q) ⊎ ((readsIn (a .chosen) w q ≡ Reads.False) × (¬ HasSolution Q q))
   done-decides = all-decided M Solves a z
 
-  -- "byte 0 at the pixel's index of the picture": after any finished steps a call of `picture` with room for every pixel is done, by what it ensures, and
+  -- byte 0 at the pixel's index of the picture: after any finished steps a call of `picture` with room for every pixel is done, by what it ensures, and
   -- where the buffer then holds 0 the pixel holds no solution
   pub white-on-screen : {n : ℕ} {w : World} (r : Steps n w₀ w) → EveryAnswer (a .chosen) (FalseRight (coversIn (a .chosen)) Q) r
-      → (out out′ : List ℕ) (d : Drawn) → pixelCount (a .chosen) ≤ length out
+      → (out out′ : List ℕ) (d : CallAnswer) → pixelCount (a .chosen) ≤ length out
       → d ≡ pictureAnswer (w .state) (w .cells) (length out)
-      → out′ ≡ ifDrawn d (pictureLeft (w .state) (w .cells) out) out
+      → out′ ≡ ifDone d (pictureLeft (w .state) (w .cells) out) out
       → (q : Pixel (a .chosen)) → getD out′ (cellIndex (a .chosen .width) (a .chosen .height) (q .x) (q .y)) 0 ≡ 0 → ¬ HasSolution Q q
   white-on-screen = white-shown M Solves a z
 
   -- so after a run of any budget, whatever its ending: of the false verdicts that it took from its tape
   pub white-after-run : (budget : ℕ) (tape : List ℕ) (e : RunEnd) (h : runOf budget w₀ tape ≡ hasRun e)
       → EveryAnswer (a .chosen) (FalseRight (coversIn (a .chosen)) Q) (run-reaches budget w₀ tape e h .0)
-      → (out out′ : List ℕ) (d : Drawn) → pixelCount (a .chosen) ≤ length out
+      → (out out′ : List ℕ) (d : CallAnswer) → pixelCount (a .chosen) ≤ length out
       → d ≡ pictureAnswer (e .world .state) (e .world .cells) (length out)
-      → out′ ≡ ifDrawn d (pictureLeft (e .world .state) (e .world .cells) out) out
+      → out′ ≡ ifDone d (pictureLeft (e .world .state) (e .world .cells) out) out
       → (q : Pixel (a .chosen)) → getD out′ (cellIndex (a .chosen .width) (a .chosen .height) (q .x) (q .y)) 0 ≡ 0 → ¬ HasSolution Q q
   white-after-run budget tape e h = white-on-screen (run-reaches budget w₀ tape e h .0)
 
--- two charts laid over each other: "white in one of them: no mix solves both", of the mixes of the pixel that both are given
+-- two charts laid over each other: where one of them is white, no mix solves both, of the mixes of the pixel that both are given
 module _ (M : Measures) (Solves Other : Mix M → Type 0) (a : Asked) {w₀ : World} (z : BegunAs a w₀) (b : Asked) {v₀ : World} (y : BegunAs b v₀) where
   abbrev One : Question Block (Pixel (a .chosen))
   One = questionOf M (a .chosen) (a .ranges) Solves

@@ -3,6 +3,7 @@ use mathlib.Core.Path.{_≡_, refl}
 use mathlib.Core.Bool.{Bool, true, false}
 use mathlib.Core.List.{List, [], _∷_}
 use Prim.Native.Nat.{ℕ}
+use Rattle.base.specs.Lists.{Every}
 use Rattle.interval.specs.declared.Interval.{Interval}
 use Rattle.interval.specs.Bounds.{putInterval}
 use Rattle.interval.proofs.ProperPieces.{line-proper}
@@ -13,10 +14,8 @@ use Rattle.queue.specs.Directions.{inUse}
 use Rattle.queue.specs.Block.{remembered, startingLast}
 use Rattle.queue.specs.Queue.{memory}
 use Rattle.queue.proofs.RoundTrip.{ParameterFine, CanQueue}
-use Rattle.queue.proofs.QueueLaws.{Every}
 use Rattle.decide.specs.declared.Chosen.{Chosen}
 use Rattle.decide.specs.Damage.{undamaged}
-use Rattle.plan.proofs.Each.{Each}
 use Rattle.implicit.specs.Record.{soundLast, putLast}
 use Rattle.implicit.proofs.RecordLaws.{remembered-sound}
 
@@ -47,7 +46,7 @@ unfolding memory
 memory-put set last [] h k = h
 memory-put set last (b ∷ q) h k = memory-put set (remembered b) q (remembered-put set b (k .0)) (k .1)
 
-pub memory-sound : (p : Chosen) (last : Last) (q : List Block) → soundLast last ≡ true → Each (λ b. undamaged p b ≡ true) q → soundLast (memory last q) ≡ true
+pub memory-sound : (p : Chosen) (last : Last) (q : List Block) → soundLast last ≡ true → Every (λ b. undamaged p b ≡ true) q → soundLast (memory last q) ≡ true
 unfolding memory
 memory-sound p last [] h k = h
 memory-sound p last (b ∷ q) h k = memory-sound p (remembered b) q (remembered-sound p b (k .0)) (k .1)

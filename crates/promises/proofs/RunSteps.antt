@@ -15,7 +15,7 @@ use Rattle.image.specs.Painting.{someOf}
 use Rattle.decide.specs.Children.{childrenOf}
 use Rattle.implicit.specs.declared.state.Ending.the-variants as E
 use Rattle.implicit.specs.Record.{pixelCount, pixelCells, soundRecord, queueEmpty}
-use Rattle.implicit.specs.Step.{World, StepEnd, refused, finished, unless, enoughVerdicts, judged, opened, stepWith, stepOf, tapeStepOf}
+use Rattle.implicit.specs.Step.{World, StepEnd, refused, finished, unless, enoughVerdicts, judged, afterTaking, stepWith, stepOf, tapeStepOf}
 use Rattle.implicit.specs.Run.{RunEnd, endedAs, notRun, hasRun, goneOn, emptyEnding, runFrom, runOf}
 use Rattle.implicit.proofs.StepLawsWent.{Went, went, step-few}
 use Rattle.implicit.proofs.RunLaws.{Finished, none, then, run-finished}
@@ -45,7 +45,7 @@ module _ (tape : Bool) (w : World) (vs : List ℕ) (left : World) (evals bytes :
   -- what a step comes to once the block is taken, with enough verdicts
   judged-alike : (tape′ : Bool) (vs′ : List ℕ) → enoughVerdicts tape′ (length (childrenOf (w .state .chosen) (g .block))) (length vs′) ≡ true
       → stepWith tape′ w vs′ ≡ judged w (g .block) (g .last) (g .head) (g .used) (take (length (childrenOf (w .state .chosen) (g .block))) vs′)
-  unfolding stepWith opened unless
+  unfolding stepWith afterTaking unless
   judged-alike tape′ vs′ e =
       rw (g .sound-record, le-leb (pixelCount (w .state .chosen)) (length (w .cells)) (g .cells-enough), g .not-empty, g .front-read, g .undamaged-block, e)
 
@@ -89,12 +89,12 @@ finished-steps (then {w = w} {next = next} {tape = tape} {evals = evals} {bytes 
 -- THE RUN
 
 -- a run's end is what steps under the tape's first bytes leave, with no move among them
-abbrev pub Leaves : World → List ℕ → RunEnd → Type 0
-Leaves w tape e =
+abbrev pub EndsBySteps : World → List ℕ → RunEnd → Type 0
+EndsBySteps w tape e =
     (r : Steps (e .steps) w (e .world)) × (verdictsOf r ≡ take (e .tape) tape) × (length (verdictsOf r) ≡ e .tape) × (evaluationsOf r ≡ e .evaluations)
     × NoMove r
 
-run-from-steps : (budget : ℕ) (w : World) (tape : List ℕ) → Leaves w tape (runFrom budget w tape)
+run-from-steps : (budget : ℕ) (w : World) (tape : List ℕ) → EndsBySteps w tape (runFrom budget w tape)
 run-from-steps budget w tape =
     let t = finished-steps (run-finished budget w tape) in
     (t .all, t .verdicts, ap length (t .verdicts) ∙ length-take-le (runFrom budget w tape .tape) tape (t .within), t .cost, t .alone)
@@ -111,7 +111,7 @@ has-run budget w tape e h =
     not-run : (why : Refusal) → notRun why ≡ hasRun e → e ≡ runFrom budget w tape
     not-run why f = let z : _≡_ {A = ℕ} 0 1 = cc in absurd (omega arith)
 
-pub run-steps : (budget : ℕ) (w : World) (tape : List ℕ) (e : RunEnd) → runOf budget w tape ≡ hasRun e → Leaves w tape e
+pub run-steps : (budget : ℕ) (w : World) (tape : List ℕ) (e : RunEnd) → runOf budget w tape ≡ hasRun e → EndsBySteps w tape e
 run-steps budget w tape e h = rw (has-run budget w tape e h) (run-from-steps budget w tape)
 
 -- where it stops, a step refuses

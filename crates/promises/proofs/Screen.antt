@@ -13,23 +13,21 @@ use Rattle.image.specs.Range.{cellIndex}
 use Rattle.queue.specs.declared.Block.{Block}
 use Rattle.theory.specs.Colours.{Question, HasSolution, FalseRight}
 use Rattle.decide.specs.declared.Chosen.{Chosen}
-use Rattle.implicit.specs.declared.state.State.{State}
-use Rattle.implicit.specs.declared.state.Drawn.{Drawn}
-use Rattle.implicit.specs.declared.state.Drawn.the-variants as D
+use Rattle.implicit.specs.declared.state.CallAnswer.{CallAnswer}
+use Rattle.implicit.specs.declared.state.CallAnswer.the-variants as D
 use Rattle.implicit.specs.Record.{pixelCount}
 use Rattle.implicit.specs.Step.{World}
 use Rattle.implicit.specs.Run.{RunEnd, hasRun, runOf}
-use Rattle.implicit.specs.View.{pictureAnswer, pictureLeft, ifDrawn}
-use Rattle.implicit.specs.Answers.{drawnNumber}
+use Rattle.implicit.specs.View.{pictureAnswer, pictureLeft, ifDone}
 use Rattle.implicit.proofs.RunLaws as RunLaws
 use Rattle.promises.specs.Chart.{Pixel, coversIn}
 use Rattle.promises.specs.Steps.{Asked, BegunAs, Steps, readsIn}
-use Rattle.promises.specs.Turns.{EveryAnswer}
+use Rattle.promises.specs.Judgements.{EveryAnswer}
 use Rattle.promises.specs.Mixes.{Measures, Mix, questionOf}
 use Rattle.promises.proofs.Linked.{Reached, begun-reached, steps-reached}
 use Rattle.promises.proofs.Drawing.{drawn}
 use Rattle.promises.proofs.NeverDamaged.{picture-drawn}
-use Rattle.promises.proofs.RunSteps.{has-run, run-steps}
+use Rattle.promises.proofs.RunSteps.{has-run}
 use Rattle.promises.proofs.ColoursHold.{white-none}
 
 -- byte 0 is False
@@ -39,12 +37,12 @@ zero-false Reads.Uncertain e = absurd (omega (arith, e))
 zero-false Reads.True e = absurd (omega (arith, e))
 
 -- a call of picture, with room for every pixel: by what it ensures, the buffer holds the picture
-pub screen-drawn : (p : Chosen) (w : World) → Reached p w → (out out′ : List ℕ) (r : Drawn) → pixelCount p ≤ length out
-    → r ≡ pictureAnswer (w .state) (w .cells) (length out) → out′ ≡ ifDrawn r (pictureLeft (w .state) (w .cells) out) out → (q : Pixel p)
+pub screen-drawn : (p : Chosen) (w : World) → Reached p w → (out out′ : List ℕ) (r : CallAnswer) → pixelCount p ≤ length out
+    → r ≡ pictureAnswer (w .state) (w .cells) (length out) → out′ ≡ ifDone r (pictureLeft (w .state) (w .cells) out) out → (q : Pixel p)
     → (r ≡ D.Done) × (getD out′ (cellIndex (p .width) (p .height) (q .x) (q .y)) 0 ≡ byteOf (readsIn p w q))
 screen-drawn p w h out out′ r room answer screen q =
     let done : r ≡ D.Done = answer ∙ picture-drawn w (h .blocks) (h .keeps) (length out) (rw (h .chosen) room) in
-    let left : out′ ≡ pictureLeft (w .state) (w .cells) out = screen ∙ ap (λ (d : Drawn). ifDrawn d (pictureLeft (w .state) (w .cells) out) out) done in
+    let left : out′ ≡ pictureLeft (w .state) (w .cells) out = screen ∙ ap (λ (d : CallAnswer). ifDone d (pictureLeft (w .state) (w .cells) out) out) done in
     (done, ap (λ (l : List ℕ). getD l (cellIndex (p .width) (p .height) (q .x) (q .y)) 0) left ∙ drawn p w h out room q .1)
 
 module _ (M : Measures) (Solves : Mix M → Type 0) (a : Asked) {w₀ : World} (z : BegunAs a w₀) where
@@ -57,8 +55,8 @@ module _ (M : Measures) (Solves : Mix M → Type 0) (a : Asked) {w₀ : World} (
   abbrev Right : {n : ℕ} {w : World} → Steps n w₀ w → Type 0
   Right r = EveryAnswer p (FalseRight (coversIn p) Q) r
 
-  pub white-shown : {n : ℕ} {w : World} (r : Steps n w₀ w) → Right r → (out out′ : List ℕ) (d : Drawn) → pixelCount p ≤ length out
-      → d ≡ pictureAnswer (w .state) (w .cells) (length out) → out′ ≡ ifDrawn d (pictureLeft (w .state) (w .cells) out) out → (q : Pixel p)
+  pub white-shown : {n : ℕ} {w : World} (r : Steps n w₀ w) → Right r → (out out′ : List ℕ) (d : CallAnswer) → pixelCount p ≤ length out
+      → d ≡ pictureAnswer (w .state) (w .cells) (length out) → out′ ≡ ifDone d (pictureLeft (w .state) (w .cells) out) out → (q : Pixel p)
       → getD out′ (cellIndex (p .width) (p .height) (q .x) (q .y)) 0 ≡ 0 → ¬ HasSolution Q q
   white-shown {n} {w} r right out out′ d room answer screen q e =
       let k = screen-drawn p w (steps-reached p (begun-reached a w₀ z) r) out out′ d room answer screen q in

@@ -10,6 +10,8 @@ use lib.ListN.{length}
 use lib.ListN as L
 use borrow.Author.Tests.{lt-ltb, ne-eqb}
 use Rattle.base.proofs.Test.{cases, and-both, ≡→T}
+use Rattle.base.specs.Lists.{Every}
+use Rattle.base.proofs.ListLaws.{every-also}
 use Rattle.theory.specs.Runs.{AcceptedSetup}
 use Rattle.image.specs.declared.Op.the-variants as O
 use Rattle.image.specs.Cell.{Named, meanings, meaningOf, doneTo, nameable, isDamaged}
@@ -17,7 +19,7 @@ use Rattle.image.specs.Range.{cellIndex, wholePicture, pictureReady}
 use Rattle.image.specs.Painting.{paintable, pixelCell}
 use Rattle.image.proofs.RangeLaws.{cell-below, whole-holds}
 use Rattle.image.proofs.PaintLaws.{painted-meanings, painted-inside, painted-cells-length}
-use Rattle.coordinate.specs.Axis.{covers1}
+use Rattle.coordinate.proofs.Covering.{covers1}
 use Rattle.queue.specs.declared.Block.{Block}
 use Rattle.queue.specs.declared.Last.{Last}
 use Rattle.queue.specs.Block.{startingLast}
@@ -29,21 +31,20 @@ use Rattle.queue.proofs.KeptLaws.{known-start}
 use Rattle.queue.proofs.QueueLaws.{BytesHold, holds-none, holds-append, codes-some}
 use Rattle.decide.specs.declared.Chosen.{Chosen}
 use Rattle.decide.specs.Damage.{legalSide, undamaged}
-use Rattle.plan.proofs.Each.{Each, each-also}
 use Rattle.implicit.specs.declared.state.State.{State}
 use Rattle.implicit.specs.declared.state.Ranges.{Ranges}
-use Rattle.implicit.specs.declared.state.Started.the-variants as S
+use Rattle.implicit.specs.declared.state.SetupAnswer.the-variants as S
 use Rattle.implicit.specs.Record.{pixelCount}
-use Rattle.implicit.specs.Setup.{firstBlocks, firstBytes, rangesLegal, setupRefusal, startRecord, startRing, startCells, startedAnswer, ringBegun, cellsBegun}
+use Rattle.implicit.specs.Setup.{firstBlocks, firstBytes, rangesLegal, setupRefusal, startRecord, startRing, startCells, setupAnswer, ringBegun, cellsBegun}
 use Rattle.implicit.specs.Step.{World, worldOf}
 use Rattle.implicit.proofs.RecordLaws.{SoundRecord, record-sound, sound-last, starting-sound, whole-ready}
-use Rattle.implicit.proofs.SetupLawsFirst.{every-sub, legal-ranges}
+use Rattle.implicit.proofs.SetupLawsFirst.{legal-ranges}
 use Rattle.implicit.proofs.SetupLawsBlocks.{RangesHeld, FirstBlock, first-blocks, first-count, first-can, first-undamaged, first-covers}
 use Rattle.implicit.proofs.SetupLawsRefusal.{Accepted, accepted}
 use Rattle.implicit.proofs.SetupLawsStart.{length-start}
-use Rattle.promises.specs.Chart.{Pixel, coversIn, standing, standingAt, snapshotOf}
+use Rattle.promises.specs.Chart.{Pixel, coversIn}
+use Rattle.promises.proofs.Snapshots.{standing, standingAt, snapshotOf}
 use Rattle.promises.proofs.Covering.{covers-as}
-use Rattle.promises.proofs.EventsEach.{queue-each, each-theory}
 use Rattle.promises.proofs.Remembered.{starting-put, memory-sound}
 use Rattle.promises.proofs.Invariant.{Keeps, keeps-queue}
 
@@ -59,8 +60,8 @@ pub record Begins (p : Chosen) (r : Ranges) (ring cells : List ℕ) (s : State) 
 refused-not : {P : Type 0} (why : _) (s : State) → S.Refused why ≡ S.Ready s → P
 refused-not why s e = let z : _≡_ {A = ℕ} 0 1 = cc in absurd (omega arith)
 
-pub begins : (p : Chosen) (r : Ranges) (ring cells : List ℕ) (s : State) → startedAnswer p r (length ring) (length cells) ≡ S.Ready s → Begins p r ring cells s
-unfolding startedAnswer setupRefusal ringBegun cellsBegun
+pub begins : (p : Chosen) (r : Ranges) (ring cells : List ℕ) (s : State) → setupAnswer p r (length ring) (length cells) ≡ S.Ready s → Begins p r ring cells s
+unfolding setupAnswer setupRefusal ringBegun cellsBegun
 begins p r ring cells s e =
     cases (legalSide (p .width) && legalSide (p .height))
     (λ i. cases (leb (pixelCount p) (length cells))
@@ -88,18 +89,17 @@ module _ (p : Chosen) (r : Ranges) (ring cells : List ℕ) (held : RangesHeld r)
   abbrev start : World
   start = worldOf (startRecord p r (length ring)) (startRing p r ring) (startCells p r cells)
 
-  each-first : Each (FirstBlock p) (firstBlocks p r)
-  each-first = queue-each (FirstBlock p) (firstBlocks p r) (first-blocks p r held (ok .ranges))
+  each-first : Every (FirstBlock p) (firstBlocks p r)
+  each-first = first-blocks p r held (ok .ranges)
 
   some-bytes : 0 < length (firstBytes p r)
   unfolding firstBytes
   some-bytes = codes-more (p .set) startingLast (firstBlocks p r) (first-count p r held (ok .ranges) .0)
 
-  all-undamaged : Each (λ b. undamaged p b ≡ true) (firstBlocks p r)
+  all-undamaged : Every (λ b. undamaged p b ≡ true) (firstBlocks p r)
   all-undamaged =
-      queue-each (λ b. undamaged p b ≡ true) (firstBlocks p r)
-      (every-sub (FirstBlock p) (λ b. undamaged p b ≡ true) (λ b f. first-undamaged p b f (ok .width-some) (ok .width-most) (ok .height-some) (ok .height-most)) (firstBlocks p r)
-      (first-blocks p r held (ok .ranges)))
+      every-also (FirstBlock p) (λ b. undamaged p b ≡ true) (λ b f. first-undamaged p b f (ok .width-some) (ok .width-most) (ok .height-some) (ok .height-most)) (firstBlocks p r)
+      (first-blocks p r held (ok .ranges))
 
   -- the bytes are written from byte 0
   start-content : content (startRing p r ring) 0 (length (firstBytes p r)) ≡ firstBytes p r
@@ -114,7 +114,7 @@ module _ (p : Chosen) (r : Ranges) (ring cells : List ℕ) (held : RangesHeld r)
   start-holds =
       rw start-content
       (unfold firstBytes in holds-append (firstBlocks p r) (holds-none (p .set) startingLast known-start)
-      (every-sub (FirstBlock p) (CanQueue (p .set)) (first-can p) (firstBlocks p r) (first-blocks p r held (ok .ranges))))
+      (every-also (FirstBlock p) (CanQueue (p .set)) (first-can p) (firstBlocks p r) (first-blocks p r held (ok .ranges))))
 
   ring-length : length (startRing p r ring) ≡ length ring
   ring-length = length-start p r ring (startRing p r ring) refl
@@ -137,7 +137,8 @@ module _ (p : Chosen) (r : Ranges) (ring cells : List ℕ) (held : RangesHeld r)
       }
 
   -- every pixel's cell names the last block
-  start-cell : (x y : ℕ) → x < p .width → y < p .height → pixelCell (p .width) (p .height) x y (meanings (startCells p r cells)) ≡ Named (length (firstBlocks p r) - 1)
+  start-cell : (x y : ℕ) → x < p .width → y < p .height
+      → pixelCell (p .width) (p .height) x y (meanings (startCells p r cells)) ≡ Named (length (firstBlocks p r) - 1)
   unfolding startCells paintable nameable doneTo
   start-cell x y h k =
       let n = first-count p r held (ok .ranges) in
@@ -171,7 +172,7 @@ module _ (p : Chosen) (r : Ranges) (ring cells : List ℕ) (held : RangesHeld r)
       record {
         none-taken = unfold startRecord in refl;
         some-block = rw is (first-count p r held (ok .ranges) .0);
-        cover-all = rw is (each-theory (λ b. (q : Pixel p) → T (coversIn p b q)) (firstBlocks p r) (each-also (FirstBlock p) (λ b. (q : Pixel p) → T (coversIn p b q)) covers-all (firstBlocks p r) each-first));
+        cover-all = rw is (every-also (FirstBlock p) (λ b. (q : Pixel p) → T (coversIn p b q)) covers-all (firstBlocks p r) each-first);
         name-last = λ q. rw is (unfold standingAt standing in ap standing (start-cell (q .x) (q .y) (q .x-in) (q .y-in)));
       }
     where

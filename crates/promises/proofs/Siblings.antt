@@ -12,6 +12,8 @@ use lib.ListN.{length}
 use borrow.Author.Tests.{ltb-true, eq-eqb, ne-eqb}
 use Rattle.base.specs.Event.{queuedBy}
 use Rattle.base.proofs.Test.{by-test}
+use Rattle.base.specs.Lists.{Every}
+use Rattle.base.proofs.ListLaws.{every-all, every-also, every-map}
 use Rattle.coordinate.specs.declared.Coordinate.{Coordinate}
 use Rattle.coordinate.specs.Axis.{ordinaryFloor}
 use Rattle.coordinate.specs.Lone.{lowHalf, highHalf}
@@ -30,13 +32,12 @@ use Rattle.decide.specs.declared.turn.Turned.{Turned}
 use Rattle.decide.specs.declared.turn.Turned.the-variants as T
 use Rattle.decide.specs.declared.verdict.Outcome.{Outcome}
 use Rattle.decide.specs.Damage.{sound, directionOf}
-use Rattle.decide.specs.Verdict.{isOpen}
+use Rattle.decide.specs.Verdict.{isIncomplete}
 use Rattle.decide.specs.Children.{movedTo, quartersOf, beginsInside, keptInside, childrenXY, childrenCut, childrenAlong, childrenOf}
 use Rattle.decide.specs.Turn.{turnedTo, turned}
 use Rattle.decide.proofs.DamageLaws.{is-sound}
-use Rattle.decide.proofs.ListingLaws.{cut-along, cut-count}
-use Rattle.plan.specs.Plan.{openCount, turnEvent, turnEvents, eventsFor}
-use Rattle.plan.proofs.Each.{Each, each-all, each-also, each-map}
+use Rattle.decide.proofs.ListingLaws.{cut-along, cut-count, kept-few}
+use Rattle.plan.specs.Plan.{incompleteCount, turnEvent, turnEvents, eventsFor}
 use Rattle.plan.proofs.ChildLaws.{direction-in-use}
 use Rattle.plan.proofs.PlaceLaws.{QuarterOf, each-kept, quarters-are}
 use Rattle.plan.proofs.QueuedLaws.{turns}
@@ -58,7 +59,7 @@ pub record Siblings (set : ℕ) (b : Block) (l : List Block) : Type 0 where
   pub along : Direction
   pub i : ℕ
   pub j : ℕ
-  pub each : Each (Sibling i j along b) l
+  pub each : Every (Sibling i j along b) l
   pub few : length l ≤ siblingsMost along
   pub used : needs along ≤ parameterCount set
 
@@ -103,13 +104,6 @@ same-turned c n D.T = refl
 
 -- THE CHILDREN
 
-kept-few : (p : Chosen) (l : List Block) → length (keptInside p l) ≤ length l
-unfolding keptInside
-kept-few p [] = omega arith
-kept-few p (c ∷ l) =
-    by-test (λ m. length m ≤ suc (length l)) (beginsInside p c) (c ∷ keptInside p l) (keptInside p l)
-    (λ e. omega (arith, kept-few p l)) (λ e. omega (arith, kept-few p l))
-
 module _ (p : Chosen) (b : Block) (ok : sound p b ≡ true) where
   abbrev Piece : Direction → Block → Type 0
   Piece d = Sibling (b .x .index / 2) (b .y .index / 2) d b
@@ -123,7 +117,7 @@ module _ (p : Chosen) (b : Block) (ok : sound p b ≡ true) where
         along = d;
         i = b .x .index / 2;
         j = b .y .index / 2;
-        each = each-map (λ (q : Interval). Unit {0}) (Piece d) (withParameter b d) (λ q t. piece q) l (each-all (λ (q : Interval). Unit {0}) (λ q. tt) l);
+        each = every-map (λ (q : Interval). Unit {0}) (Piece d) (withParameter b d) (λ q t. piece q) l (every-all (λ (q : Interval). Unit {0}) (λ q. tt) l);
         few = omega (arith, three, cut-count b d .1);
         used = counts-some (p .set) d u;
       }
@@ -153,7 +147,7 @@ module _ (p : Chosen) (b : Block) (ok : sound p b ≡ true) where
   unfolding childrenXY quartersOf
   quartered up =
       let z = quarters-are b up (is-sound p b ok .block .ranks) in
-      let q : Each Quarter (quartersOf b) = (
+      let q : Every Quarter (quartersOf b) = (
         quarter (z .0) (same-moved b (lowHalf (b .x)) (lowHalf (b .y))),
         (
           quarter (z .1 .0) (same-moved b (highHalf (b .x)) (lowHalf (b .y))),
@@ -163,13 +157,13 @@ module _ (p : Chosen) (b : Block) (ok : sound p b ≡ true) where
           ),
         ),
       ) in
-      let inside : Each (λ c. beginsInside p c ≡ true → Quarter c) (quartersOf b) =
-      each-also Quarter (λ c. beginsInside p c ≡ true → Quarter c) (λ c s t. s) (quartersOf b) q in
+      let inside : Every (λ c. beginsInside p c ≡ true → Quarter c) (quartersOf b) =
+      every-also Quarter (λ c. beginsInside p c ≡ true → Quarter c) (λ c s t. s) (quartersOf b) q in
       record {
         along = D.XY;
         i = b .x .index;
         j = b .y .index;
-        each = by-test (Each Quarter) (ltb 48 (b .x .rank)) (keptInside p (quartersOf b)) (quartersOf b)
+        each = by-test (Every Quarter) (ltb 48 (b .x .rank)) (keptInside p (quartersOf b)) (quartersOf b)
             (λ e. each-kept p Quarter (quartersOf b) inside) (λ e. q);
         few = by-test (λ m. length m ≤ 4) (ltb 48 (b .x .rank)) (keptInside p (quartersOf b)) (quartersOf b)
             (λ e. omega (arith, kept-few p (quartersOf b))) (λ e. omega arith);
@@ -206,7 +200,7 @@ module _ (p : Chosen) (b : Block) (ok : sound p b ≡ true) where
   queued-few turn (c ∷ cs) [] = omega arith
   queued-few turn (c ∷ cs) (o ∷ os) =
       let ih = queued-few turn cs os in
-      by-test (λ l. length (queuedBy l) ≤ suc (length cs)) (isOpen o) (turnEvent (turn c) ∷ turnEvents turn cs os) (turnEvents turn cs os)
+      by-test (λ l. length (queuedBy l) ≤ suc (length cs)) (isIncomplete o) (turnEvent (turn c) ∷ turnEvents turn cs os) (turnEvents turn cs os)
       (λ e. go (turn c) ih) (λ e. omega arith)
     where
       go : (t : Turned) → length (queuedBy (turnEvents turn cs os)) ≤ length cs → length (queuedBy (turnEvent t ∷ turnEvents turn cs os)) ≤ suc (length cs)
@@ -224,14 +218,14 @@ module _ (p : Chosen) (b : Block) (ok : sound p b ≡ true) where
   unfolding eventsFor
   queued-siblings os =
       let s = children in
-      let turn = turned p b (openCount os) in
-      rw (marks-queue-none (childrenOf p b) os (turnEvents (turned p b (openCount os)) (childrenOf p b) os))
+      let turn = turned p b (incompleteCount os) in
+      rw (marks-queue-none (childrenOf p b) os (turnEvents (turned p b (incompleteCount os)) (childrenOf p b) os))
       (record {
         along = s .along;
         i = s .i;
         j = s .j;
         each = each-queued (Sibling (s .i) (s .j) (s .along) b) (Sibling (s .i) (s .j) (s .along) b) turn
-            (λ c v k e. still-sibling (s .i) (s .j) (s .along) c (v .dir) v (turns p b (openCount os) c v e .same) k) (childrenOf p b) os (s .each);
+            (λ c v k e. still-sibling (s .i) (s .j) (s .along) c (v .dir) v (turns p b (incompleteCount os) c v e .same) k) (childrenOf p b) os (s .each);
         few = omega (arith, queued-few turn (childrenOf p b) os, s .few);
         used = s .used;
       })

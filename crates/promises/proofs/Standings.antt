@@ -5,12 +5,12 @@ use mathlib.Core.Bool.{Bool, true, false, cond}
 use Prim.Native.Nat.{ℕ}
 use native.Mathlib.Omega.{arith}
 use lib.Dec.{leb}
-use Rattle.theory.specs.Cells.{Standing, isTrue, givenUp, named, PixelReading, readsTrue, readsFalse, readsUncertain, standingReads, renamed, afterGivingUp}
+use Rattle.theory.specs.Cells.{Standing, markedTrue, givenUp, named, PixelReading, readsTrue, readsFalse, readsUncertain, standingReads, renamed, afterGivingUp}
 use Rattle.image.specs.declared.Op.the-variants as O
 use Rattle.image.specs.declared.Reading.{Reading}
 use Rattle.image.specs.declared.Reading.the-variants as R
 use Rattle.image.specs.Cell.{Cell, Named, Marked, GivenUp, Other, doneTo, reading, isMarked, isDamaged}
-use Rattle.promises.specs.Chart.{standing}
+use Rattle.promises.proofs.Snapshots.{standing}
 
 -- a reading of `theory` as one of the engine
 abbrev pub shown : PixelReading → Reading
@@ -43,7 +43,7 @@ shown-one readsUncertain readsUncertain e = refl
 
 -- DONE TO A CELL
 
-pub mark-as : (c : Cell) → standing (doneTo O.Mark c) ≡ isTrue
+pub mark-as : (c : Cell) → standing (doneTo O.Mark c) ≡ markedTrue
 unfolding doneTo standing
 mark-as c = refl
 
@@ -61,7 +61,7 @@ name-as from new (Other n) = refl
 
 given-up : (v : Standing) → givenUp ≡ afterGivingUp false v
 unfolding afterGivingUp
-given-up isTrue = refl
+given-up markedTrue = refl
 given-up givenUp = refl
 given-up (named n) = refl
 
@@ -70,14 +70,14 @@ unfolding doneTo standing
 give-up-as c = given-up (standing c)
 
 -- True is True
-pub true-as : (c : Cell) → isMarked c ≡ true → standing c ≡ isTrue
+pub true-as : (c : Cell) → isMarked c ≡ true → standing c ≡ markedTrue
 unfolding isMarked standing
 true-as (Named n) e = cc
 true-as Marked e = refl
 true-as GivenUp e = cc
 true-as (Other n) e = cc
 
-pub not-true-as : (c : Cell) → isMarked c ≡ false → ¬ (standing c ≡ isTrue)
+pub not-true-as : (c : Cell) → isMarked c ≡ false → ¬ (standing c ≡ markedTrue)
 unfolding isMarked standing
 not-true-as (Named n) e f = let z : _≡_ {A = ℕ} 0 1 = cc in omega arith
 not-true-as Marked e f = let z : _≡_ {A = ℕ} 0 1 = cc in omega arith

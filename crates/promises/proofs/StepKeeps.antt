@@ -10,6 +10,8 @@ use lib.ListN as L
 use lib.Seq.{take-all}
 use borrow.Author.Tests.{eqb-true, eq-eqb, le-leb, lt-ltb}
 use Rattle.base.proofs.Test.{and-both, and-right, both-ways, by-ltb}
+use Rattle.base.specs.Lists.{Every}
+use Rattle.base.proofs.ListLaws.{every-also, every-append}
 use Rattle.image.specs.Cell.{meanings, meaningOf}
 use Rattle.queue.specs.declared.Block.{Block}
 use Rattle.queue.specs.declared.Last.{Last}
@@ -20,19 +22,16 @@ use Rattle.queue.specs.Queue.{queueCodes, memory}
 use Rattle.queue.proofs.RoundTrip.{CanQueue}
 use Rattle.queue.proofs.RingLaws.{length-stored, content-store}
 use Rattle.queue.proofs.QueueLaws.{BytesHold, holds-append, used-none, none-used}
-use Rattle.queue.proofs.QueueLaws as Queue
 use Rattle.decide.specs.Damage.{undamaged, legalChosen, sound}
 use Rattle.decide.specs.Children.{childrenOf}
 use Rattle.decide.specs.Verdict.{allLegal}
 use Rattle.plan.specs.Plan.{cellsAfter}
-use Rattle.plan.proofs.Each.{Each, each-also}
 use Rattle.plan.proofs.EventLaws.{queued-sound}
 use Rattle.implicit.specs.Record.{putLast}
 use Rattle.implicit.specs.Step.{World, finished, outcomesOf, eventsOf, newBlocks, newBytes, worldLeft, stepOf}
 use Rattle.implicit.proofs.RecordLaws.{SoundRecord, sound-record, record-sound, sound-last, last-sound, remembered-sound, put-last-sound}
 use Rattle.implicit.proofs.StepLawsWent.{went, step-stays}
 use Rattle.promises.proofs.CellsKept.{meanings-coded, codes-back, coded-after, whole-after}
-use Rattle.promises.proofs.EventsEach.{each-queue, each-append}
 use Rattle.promises.proofs.Remembered.{Put, remembered-put, memory-put, memory-sound}
 use Rattle.promises.proofs.Invariant.{Keeps, size, head′, used′, front-is, size-in, rest-holds, block-sound}
 
@@ -43,7 +42,7 @@ pub record TookFront (w : World) (c : Block) (rest : List Block) (k : Keeps w (c
   pub legal : allLegal (childrenOf (w .state .chosen) c) vs ≡ true
   pub numbers : w .state .queued + length (newBlocks w c vs) ≤ 2 ^ 32
   pub room : used′ w c rest k + length (newBytes w c vs) ≤ length (w .ring)
-  pub leaves : left ≡ worldLeft w c (remembered c) (head′ w c rest k) (used′ w c rest k) vs
+  pub left-is : left ≡ worldLeft w c (remembered c) (head′ w c rest k) (used′ w c rest k) vs
   pub cells-stay : length (left .cells) ≡ length (w .cells)
 
 pub took-front : (w : World) (c : Block) (rest : List Block) (k : Keeps w (c ∷ rest)) (vs : List ℕ) (left : World) (evals bytes : ℕ)
@@ -62,7 +61,7 @@ took-front w c rest k vs left evals bytes e =
       legal = rw (b, o) at (g .legal);
       numbers = rw (b, o) at (g .numbers);
       room = rw (b, o, u) at (g .room);
-      leaves = rw (b, l, h, u, o) at (g .leaves);
+      left-is = rw (b, l, h, u, o) at (g .leaves);
       cells-stay = step-stays false w vs left evals bytes e .cells;
     }
 
@@ -73,18 +72,17 @@ module _ (w : World) (c : Block) (rest : List Block) (k : Keeps w (c ∷ rest)) 
   set = w .state .chosen .set
 
   -- each new block is undamaged and can be queued
-  new-each : Each (λ d. (sound (w .state .chosen) d ≡ true) × CanQueue (w .state .chosen .set) d) (newBlocks w c vs)
+  new-each : Every (λ d. (sound (w .state .chosen) d ≡ true) × CanQueue (w .state .chosen .set) d) (newBlocks w c vs)
   new-each = queued-sound (w .state .chosen) c (block-sound w c rest k) (outcomesOf w c vs) (k .holds .all .0 .fine)
 
-  new-undamaged : Each (λ d. undamaged (w .state .chosen) d ≡ true) (newBlocks w c vs)
+  new-undamaged : Every (λ d. undamaged (w .state .chosen) d ≡ true) (newBlocks w c vs)
   new-undamaged =
-      each-also (λ d. (sound (w .state .chosen) d ≡ true) × CanQueue (w .state .chosen .set) d) (λ d. undamaged (w .state .chosen) d ≡ true)
+      every-also (λ d. (sound (w .state .chosen) d ≡ true) × CanQueue (w .state .chosen .set) d) (λ d. undamaged (w .state .chosen) d ≡ true)
       (λ d h. and-right (legalChosen (w .state .chosen)) (undamaged (w .state .chosen) d) (h .0)) (newBlocks w c vs) new-each
 
-  new-can : Queue.Every (CanQueue (w .state .chosen .set)) (newBlocks w c vs)
+  new-can : Every (CanQueue (w .state .chosen .set)) (newBlocks w c vs)
   new-can =
-      each-queue (CanQueue (w .state .chosen .set)) (newBlocks w c vs)
-      (each-also (λ d. (sound (w .state .chosen) d ≡ true) × CanQueue (w .state .chosen .set) d) (CanQueue (w .state .chosen .set)) (λ d h. h .1) (newBlocks w c vs) new-each)
+      every-also (λ d. (sound (w .state .chosen) d ≡ true) × CanQueue (w .state .chosen .set) d) (CanQueue (w .state .chosen .set)) (λ d h. h .1) (newBlocks w c vs) new-each
 
   -- what the writer remembers is put
   back-put : Put (w .state .back)
@@ -172,7 +170,7 @@ module _ (w : World) (c : Block) (rest : List Block) (k : Keeps w (c ∷ rest)) 
           enough = rw same (k .enough);
           holds = left-holds;
           count = left-count;
-          undamaged-all = each-append (λ b. undamaged (w .state .chosen) b ≡ true) rest (newBlocks w c vs) (k .undamaged-all .1) new-undamaged;
+          undamaged-all = every-append (λ b. undamaged (w .state .chosen) b ≡ true) rest (newBlocks w c vs) (k .undamaged-all .1) new-undamaged;
           whole = rw left-cells
               (whole-after (w .state .chosen) c (w .state .taken) (w .state .queued) (eventsOf w c vs) (meanings (w .cells)) enough (k .whole));
           front-put = remembered-put (w .state .chosen .set) c (k .holds .all .0);
@@ -183,4 +181,4 @@ pub step-keeps : (w : World) (c : Block) (rest : List Block) → Keeps w (c ∷ 
     → stepOf w vs ≡ finished left evals bytes → Keeps left (rest ++ newBlocks w c vs)
 step-keeps w c rest k vs left evals bytes e =
     let t = took-front w c rest k vs left evals bytes e in
-    rw (t .leaves) (left-keeps w c rest k vs (t .room) (t .numbers) (rw (t .leaves) at (t .cells-stay)))
+    rw (t .left-is) (left-keeps w c rest k vs (t .room) (t .numbers) (rw (t .left-is) at (t .cells-stay)))

@@ -12,8 +12,9 @@ use Rattle.image.specs.declared.Reading.the-variants as R
 use Rattle.queue.specs.declared.directions.Direction.the-variants as D
 use Rattle.queue.specs.Directions.{inUse}
 use Rattle.implicit.specs.Step.{World}
-use Rattle.promises.specs.Chart.{Pixel, coversIn, snapshotOf}
+use Rattle.promises.specs.Chart.{Pixel, coversIn}
 use Rattle.promises.specs.Steps.{Asked, BegunAs, Steps, readsIn}
+use Rattle.promises.proofs.Snapshots.{snapshotOf}
 use Rattle.promises.proofs.Standings.{shown}
 use Rattle.promises.proofs.Linked.{Reached, begun-reached, begun-passed, begun-accepted, steps-reached, in-theory, each-linked}
 use Rattle.promises.proofs.Demand3.{reads-linked, reads-both}
@@ -25,7 +26,8 @@ module _ (a : Asked) {w₀ : World} (z : BegunAs a w₀) {n : ℕ} {w : World} (
   start = steps-reached (a .chosen) (begun-reached a w₀ z) r₀
 
   -- a step that gives up sees cells alike
-  alike : {m : ℕ} {w′ : World} (r : Steps m w w′) → EveryStep (coversIn (a .chosen)) false (GivesUpAlike (coversIn (a .chosen)) false) (in-theory (a .chosen) start r)
+  alike : {m : ℕ} {w′ : World} (r : Steps m w w′)
+      → EveryStep (coversIn (a .chosen)) false (GivesUpAlike (coversIn (a .chosen)) false) (in-theory (a .chosen) start r)
   alike r =
       cases (inUse (a .chosen .set) D.XY)
       (λ u. Theory.alike-with-xy (coversIn (a .chosen)) false (in-theory (a .chosen) start r)

@@ -2,7 +2,7 @@
 pub mod Chart
 pub mod Steps
 pub mod Calls
-pub mod Turns
+pub mod Judgements
 pub mod Mixes
 pub mod Sentences
 pub mod EnoughRoom

@@ -20,7 +20,7 @@ use Rattle.queue.specs.Directions.{inUse}
 use Rattle.queue.specs.Block.{wholeLine}
 use Rattle.decide.specs.declared.Chosen.{Chosen}
 use Rattle.implicit.specs.declared.state.Ranges.{Ranges}
-use Rattle.promises.specs.Chart.{Pixel, placeOf}
+use Rattle.promises.specs.Chart.{Pixel, placeOfBlock}
 
 -- what positions and reals are: any that meet this
 pub record Measures : Type 1 where
@@ -107,6 +107,6 @@ module _ (M : Measures) where
         Mix = Mix M;
         Given = λ a. (d : Direction) → inUse (p .set) d ≡ true → LiesIn d (rangeOf r d) a;
         At = λ a q. M .LiesX (q .x) 48 (a .x) × M .LiesY (q .y) 48 (a .y);
-        In = λ b a. (M .LiesX (placeOf b .x) (placeOf b .level) (a .x) × M .LiesY (placeOf b .y) (placeOf b .level) (a .y)) × HeldBy b a;
+        In = λ b a. (M .LiesX (placeOfBlock b .x) (placeOfBlock b .level) (a .x) × M .LiesY (placeOfBlock b .y) (placeOfBlock b .level) (a .y)) × HeldBy b a;
         Solves = Solves;
       }

@@ -5,8 +5,8 @@ use mathlib.Core.Logic.{_↔_}
 use mathlib.Core.List.{_++_}
 use Prim.Native.Nat.{ℕ, suc, _*_, _≤_, _<_}
 use lib.ListN.{length, drop}
+use Rattle.base.specs.Lists.{Every}
 use Rattle.image.specs.declared.Reading.the-variants as Reads
-use Rattle.theory.specs.Lists.{Every}
 use Rattle.theory.specs.Demand3.{CoversAtMostOne}
 use Rattle.theory.specs.Levels.{sumTo, placesAlong}
 use Rattle.theory.specs.Colours.{HasSolution, FalseRight}
@@ -14,7 +14,7 @@ use Rattle.implicit.specs.Setup.{startLevel}
 use Rattle.implicit.specs.Step.{World}
 use Rattle.promises.specs.Chart.{Pixel, coversIn, queuedBlocks}
 use Rattle.promises.specs.Steps.{Asked, Steps, readsIn, NoneQueuedCovers, GivenUpIn, queuedSince, PlaneOnly}
-use Rattle.promises.specs.Turns.{EveryAnswer}
+use Rattle.promises.specs.Judgements.{EveryAnswer}
 use Rattle.promises.specs.Mixes.{Measures, Mix, questionOf}
 
 module _ (a : Asked) (w₀ : World) where
@@ -47,7 +47,7 @@ module _ (a : Asked) (w₀ : World) where
       → Every (CoversAtMostOne (coversIn (a .chosen))) (queuedBlocks w)
 
 module _ (M : Measures) (Solves : Mix M → Type 0) (a : Asked) (w₀ : World) where
-  -- "if every `false` verdict was right, a pixel that reads False holds no solution"
+  -- if every `false` verdict was right, a pixel that reads False holds no solution
   abbrev pub WhiteMeansNo : Type 0
   WhiteMeansNo =
       (n : ℕ) (w : World) (r : Steps n w₀ w) → EveryAnswer (a .chosen) (FalseRight (coversIn (a .chosen)) (questionOf M (a .chosen) (a .ranges) Solves)) r

@@ -8,7 +8,7 @@ use mathlib.Core.List.{List, [], _∷_, _++_}
 use Prim.Native.Nat.{ℕ, zero, suc, _+_, _-_, _^_, _≤_}
 use lib.Dec.{T}
 use lib.ListN.{length}
-use Rattle.theory.specs.Lists.{Every}
+use Rattle.base.specs.Lists.{Every}
 use Rattle.theory.specs.Demand3.{anyGivesUp}
 use Rattle.refusal.specs.declared.Refusal.{Refusal}
 use Rattle.refusal.specs.Number.{number}
@@ -24,13 +24,13 @@ use Rattle.decide.specs.declared.Chosen.{Chosen}
 use Rattle.decide.specs.Children.{childrenOf}
 use Rattle.decide.specs.Verdict.{allLegal}
 use Rattle.implicit.specs.declared.state.Ranges.{Ranges}
-use Rattle.implicit.specs.Setup.{startedAnswer, ringBegun, cellsBegun}
+use Rattle.implicit.specs.Setup.{setupAnswer, ringBegun, cellsBegun}
 use Rattle.implicit.specs.Listing.{childrenListed}
 use Rattle.implicit.specs.Step.{World, finished, stepOf, stepAnswer, eventsOf, newBlocks, newBytes}
 use Rattle.implicit.specs.Move.{notMoved, moved, moveOf}
 use Rattle.implicit.specs.Run.{runOf, runAnswer}
 use Rattle.implicit.specs.View.{pictureAnswer, countsAnswer}
-use Rattle.implicit.specs.Answers.{setupNumber, setupState, stepNumber, runNumber, runStop, childrenNumber, drawnNumber, countsNumber}
+use Rattle.implicit.specs.Answers.{setupNumber, setupState, stepNumber, runNumber, runStop, childrenNumber, callNumber, countsNumber}
 use Rattle.promises.specs.Chart.{Pixel, coversIn, queuedBlocks}
 
 -- what a setup was called with
@@ -42,8 +42,8 @@ pub record Asked : Type 0 where
 
 -- "an accepted setup" has the number 0, answers a record and leaves the ring and the cells: this world. The bounds handed in are values of f64, as every f64 is
 pub record BegunAs (a : Asked) (w : World) : Type 0 where
-  pub accepted : setupNumber (startedAnswer (a .chosen) (a .ranges) (length (a .ring)) (length (a .cells))) ≡ 0
-  pub state : setupState (startedAnswer (a .chosen) (a .ranges) (length (a .ring)) (length (a .cells))) ≡ w .state
+  pub accepted : setupNumber (setupAnswer (a .chosen) (a .ranges) (length (a .ring)) (length (a .cells))) ≡ 0
+  pub state : setupState (setupAnswer (a .chosen) (a .ranges) (length (a .ring)) (length (a .cells))) ≡ w .state
   pub ring : w .ring ≡ ringBegun (a .chosen) (a .ranges) (a .ring) (a .cells)
   pub cells : w .cells ≡ cellsBegun (a .chosen) (a .ranges) (a .ring) (a .cells)
   pub held : InFormat (a .ranges .m) × InFormat (a .ranges .n) × InFormat (a .ranges .theta) × InFormat (a .ranges .t)
@@ -91,13 +91,13 @@ unfoldable pub gaveUpTaking : (p : Chosen) → World → List ℕ → List Block
 gaveUpTaking p w vs [] q = false
 gaveUpTaking p w vs (b ∷ rest) q = anyGivesUp (eventsOf w b vs) && coversIn p b q
 
--- "was given up": by one of the steps
+-- the pixel was given up by one of the steps
 unfoldable pub GivenUpIn : (p : Chosen) → {n : ℕ} {w w′ : World} → Steps n w w′ → Pixel p → Type 0
 GivenUpIn p no-steps q = ⊥
 GivenUpIn p (then-step {w′ = w′} r vs evals bytes e) q = GivenUpIn p r q ⊎ T (gaveUpTaking p w′ vs (queuedBlocks w′) q)
 GivenUpIn p (then-move r m) q = GivenUpIn p r q
 
--- "is given up": the pixel's cell says so now
+-- it is given up now: the pixel's cell says so
 abbrev pub StandsGivenUp : (p : Chosen) → World → Pixel p → Type 0
 StandsGivenUp p w q = pixelCell (p .width) (p .height) (q .x) (q .y) (meanings (w .cells)) ≡ GivenUp
 
@@ -142,12 +142,12 @@ Suffices w vs (b ∷ rest) =
     (w .state .queued + length (newBlocks w b vs) ≤ 2 ^ 32)
     × (w .state .used - length (encode (w .state .chosen .set) (w .state .front) b) + length (newBytes w b vs) ≤ length (w .ring))
 
--- "never refused by 8": no call on this world is, whatever else it is given
+-- never refused by 8: no call on this world is, whatever else it is given
 pub record NeverEight (w : World) : Type 0 where
   pub step : (vs : List ℕ) → ¬ (stepNumber (stepAnswer (w .state) (stepOf w vs)) ≡ 8)
   pub run : (budget : ℕ) (tape : List ℕ) → ¬ (runNumber (runAnswer (w .state) (runOf budget w tape)) ≡ 8)
   pub step-in-run : (budget : ℕ) (tape : List ℕ) → ¬ (runStop (runAnswer (w .state) (runOf budget w tape)) ≡ 8)
   pub children : ¬ (childrenNumber (childrenListed (w .state) (w .ring)) ≡ 8)
-  pub picture : (room : ℕ) → ¬ (drawnNumber (pictureAnswer (w .state) (w .cells) room) ≡ 8)
+  pub picture : (room : ℕ) → ¬ (callNumber (pictureAnswer (w .state) (w .cells) room) ≡ 8)
   pub counts : ¬ (countsNumber (countsAnswer (w .state) (w .cells)) ≡ 8)
   pub move : (ring : List ℕ) (why : Refusal) → moveOf w ring ≡ notMoved why → ¬ (number why ≡ 8)

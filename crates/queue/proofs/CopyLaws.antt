@@ -1,4 +1,5 @@
--- What copy answers and leaves, by the tests that the code makes; and that the other ring then holds the same bytes. Assumes nothing.
+-- What copy answers and leaves, by the tests that the code makes; and that the other ring then holds the same
+-- bytes. Assumes nothing.
 use mathlib.Core.Path.{_≡_, refl, sym, ap, _∙_}
 use mathlib.Core.Logic.{_↔_}
 use mathlib.Core.Bool.{Bool, true, false, cond, true≢false, false≢true}
@@ -11,15 +12,16 @@ use lib.Seq.{sets, take-all}
 use borrow.Author.Tests.{lt-ltb}
 use Rattle.queue.specs.declared.Copied.{Copied}
 use Rattle.queue.specs.declared.Copied.the-variants as C
-use Rattle.queue.specs.Ring.{olderRun, newerRun, content, fitsRing, stored}
+use Rattle.queue.specs.Ring.{olderStretch, newerStretch, content, fitsRing, stored}
 use Rattle.queue.specs.Answers.{copiedNumber}
 use Rattle.queue.specs.Queue.{copied, ifCopied, copiedRing}
-use Rattle.queue.proofs.RingLaws.{runs-length, content-length, content-store, stored-straight}
+use Rattle.queue.proofs.RingLaws.{stretches-length, content-length, content-store, stored-straight}
 use Rattle.queue.proofs.WriteLaws.{sets-append}
 use Rattle.queue.proofs.QueueAnswers.{fits-both}
 
--- one run stored from byte 0 on, and another behind it
-pub store-both : (ring o n ring₁ ring₂ : List ℕ) → ring₁ ≡ sets ring 0 (take (length o) o) → ring₂ ≡ sets ring₁ (length o) (take (length n) n)
+-- one stretch stored from byte 0 on, and another behind it
+pub store-both : (ring o n ring₁ ring₂ : List ℕ) → ring₁ ≡ sets ring 0 (take (length o) o)
+    → ring₂ ≡ sets ring₁ (length o) (take (length n) n)
     → ring₂ ≡ sets ring 0 (o ++ n)
 store-both ring o n ring₁ ring₂ e f =
     f ∙ rw (e, take-all (length o) o (omega arith), take-all (length n) n (omega arith))
@@ -37,11 +39,14 @@ module _ (ring : List ℕ) (head used : ℕ) (other : List ℕ) where
     unfolding copied copiedRing
     copy-full f = (rw (e, f), rw (e, f))
 
-    module _ (f : fitsRing (length other) 0 used ≡ true) (o n : List ℕ) (older : o ≡ olderRun ring head used) (newer : n ≡ newerRun ring head used) where
+    module _ (f : fitsRing (length other) 0 used ≡ true) (o n : List ℕ) (older : o ≡ olderStretch ring head used)
+        (newer : n ≡ newerStretch ring head used) where
       both-used : length o + length n ≡ used
-      both-used = let (h, k) = fits-both (length ring) head used e in rw (older, newer) (runs-length ring head used (omega arith) k)
+      both-used =
+          let (h, k) = fits-both (length ring) head used e in
+          rw (older, newer) (stretches-length ring head used (omega arith) k)
 
-      -- both runs have room
+      -- both stretches have room
       pub copy-fits : length o + length n ≤ length other
       copy-fits = omega (arith, both-used, fits-both (length other) 0 used f .1)
 
@@ -50,7 +55,8 @@ module _ (ring : List ℕ) (head used : ℕ) (other : List ℕ) where
       unfolding copied copiedRing content
       copy-done other₁ g = (
         rw (e, f),
-        rw (e, f, ← older, ← newer) (g ∙ sym (stored-straight (o ++ n) other 0 (omega (arith, copy-fits, length-append o n)))),
+        rw (e, f, ← older, ← newer) (g ∙ sym (stored-straight (o ++ n) other 0
+            (omega (arith, copy-fits, length-append o n)))),
       )
 
 -- THE ANSWER'S NUMBER, by the two tests
@@ -88,32 +94,39 @@ module _ (ring : List ℕ) (head used : ℕ) (other : List ℕ) where
   unfolding copied
   copy-is-6 = copy-six (fitsRing (length ring) head used) (fitsRing (length other) 0 used)
 
-  pub copy-is-8 : (copiedNumber (copied (length ring) head used (length other)) ≡ 8) ↔ (fitsRing (length ring) head used ≡ false)
+  pub copy-is-8 : (copiedNumber (copied (length ring) head used (length other)) ≡ 8)
+      ↔ (fitsRing (length ring) head used ≡ false)
   unfolding copied
   copy-is-8 = copy-eight (fitsRing (length ring) head used) (fitsRing (length other) 0 used)
 
-  pub copy-refused : ¬ (copiedNumber (copied (length ring) head used (length other)) ≡ 0) → copiedRing ring head used other ≡ other
+  pub copy-refused : ¬ (copiedNumber (copied (length ring) head used (length other)) ≡ 0)
+      → copiedRing ring head used other ≡ other
   unfolding copiedRing
-  copy-refused n = copy-keeps (copied (length ring) head used (length other)) (stored other 0 (content ring head used)) other n
+  copy-refused n =
+      copy-keeps (copied (length ring) head used (length other)) (stored other 0 (content ring head used)) other n
 
 -- THE SAME BYTES
 
 -- bytes stored from byte 0 on are held
-pub stored-content : (other bytes : List ℕ) → 0 < length other → length bytes ≤ length other → content (stored other 0 bytes) 0 (length bytes) ≡ bytes
+pub stored-content : (other bytes : List ℕ) → 0 < length other → length bytes ≤ length other
+    → content (stored other 0 bytes) 0 (length bytes) ≡ bytes
 stored-content other bytes some room =
-    let none : content other 0 0 ≡ [] = unfold content olderRun newerRun in (let e : 0 - length other ≡ 0 = omega arith in rw e) in
+    let none : content other 0 0 ≡ [] =
+    unfold content olderStretch newerStretch in (let e : 0 - length other ≡ 0 = omega arith in rw e) in
     let all : content (stored other 0 bytes) 0 (0 + length bytes) ≡ bytes =
     rw (lt-ltb 0 (length other) some, none) at (content-store bytes other 0 0 some (omega arith)) in
     rw (zero-add (length bytes)) at all
 
 -- what is copied is held by the other ring
-pub copy-content : (ring : List ℕ) (head used : ℕ) (other : List ℕ) → fitsRing (length ring) head used ≡ true → fitsRing (length other) 0 used ≡ true
+pub copy-content : (ring : List ℕ) (head used : ℕ) (other : List ℕ) → fitsRing (length ring) head used ≡ true
+    → fitsRing (length other) 0 used ≡ true
     → content (copiedRing ring head used other) 0 used ≡ content ring head used
 unfolding copiedRing copied
 copy-content ring head used other e f =
     let (h, k) = fits-both (length ring) head used e in
     let (some, room) = fits-both (length other) 0 used f in
     let n : length (content ring head used) ≡ used = content-length ring head used (omega arith) k in
-    let held : content (stored other 0 (content ring head used)) 0 (length (content ring head used)) ≡ content ring head used =
+    let held : content (stored other 0 (content ring head used)) 0 (length (content ring head used))
+    ≡ content ring head used =
     stored-content other (content ring head used) some (omega arith) in
     rw (e, f) (rw n at held)

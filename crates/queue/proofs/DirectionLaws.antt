@@ -9,10 +9,12 @@ use borrow.Author.Tests.{ne-eqb}
 use Rattle.queue.specs.declared.directions.Direction.{Direction}
 use Rattle.queue.specs.declared.directions.Direction.the-variants as D
 use Rattle.queue.specs.declared.directions.DirectionAt.the-variants as A
-use Rattle.queue.specs.Directions.{inUse, usedOf, directions, parameters, directionAt, ones}
+use Rattle.queue.specs.Directions.{inUse, usedOf, directions, parameters, directionAt}
+use Rattle.queue.specs.DirectionsComputed.{ones}
 
 -- a set whose last four digits are 0 uses no parameter
-pub unused : (set : ℕ) → set % 16 ≡ 0 → (inUse set D.M ≡ false) × (inUse set D.N ≡ false) × (inUse set D.Theta ≡ false) × (inUse set D.T ≡ false)
+pub unused : (set : ℕ) → set % 16 ≡ 0
+    → (inUse set D.M ≡ false) × (inUse set D.N ≡ false) × (inUse set D.Theta ≡ false) × (inUse set D.T ≡ false)
 unused set h = (
   ne-eqb (set / 8 % 2) 1 (λ e. omega arith),
   ne-eqb (set / 4 % 2) 1 (λ e. omega arith),
@@ -21,7 +23,8 @@ unused set h = (
 )
 
 -- one direction more
-pub used-length : (set : ℕ) (d : Direction) (ds : List Direction) → length (usedOf set (d ∷ ds)) ≡ ones (inUse set d) + length (usedOf set ds)
+pub used-length : (set : ℕ) (d : Direction) (ds : List Direction)
+    → length (usedOf set (d ∷ ds)) ≡ ones (inUse set d) + length (usedOf set ds)
 unfolding usedOf
 used-length set d ds = go (inUse set d)
   where
@@ -36,7 +39,12 @@ module _ (set b c d e : ℕ) (is-m : b ≡ ones (inUse set D.M)) (is-n : c ≡ o
   parameters-length =
       let none : length (usedOf set []) ≡ 0 = unfold usedOf in refl in
       rw (is-m, is-n, is-theta, is-t)
-      (rw (used-length set D.M (D.N ∷ D.Theta ∷ D.T ∷ []), used-length set D.N (D.Theta ∷ D.T ∷ []), used-length set D.Theta (D.T ∷ []), used-length set D.T [])
+      (rw (
+        used-length set D.M (D.N ∷ D.Theta ∷ D.T ∷ []),
+        used-length set D.N (D.Theta ∷ D.T ∷ []),
+        used-length set D.Theta (D.T ∷ []),
+        used-length set D.T [],
+      )
       (omega arith))
 
   pub directions-length : (a : ℕ) → a ≡ ones (inUse set D.XY) → a + b + c + d + e ≡ length (directions set)
@@ -44,7 +52,8 @@ module _ (set b c d e : ℕ) (is-m : b ≡ ones (inUse set D.M)) (is-n : c ≡ o
   directions-length a is-xy = rw (is-xy, used-length set D.XY parameters) (omega (arith, parameters-length))
 
 -- the first of a list, where it is in use and asked for
-pub at-first : (set : ℕ) (d : Direction) (ds : List Direction) (at k : ℕ) → k ≡ ones (inUse set d) → at < k → directionAt (usedOf set (d ∷ ds)) at ≡ A.Along d
+pub at-first : (set : ℕ) (d : Direction) (ds : List Direction) (at k : ℕ) → k ≡ ones (inUse set d) → at < k
+    → directionAt (usedOf set (d ∷ ds)) at ≡ A.Along d
 unfolding usedOf directionAt
 at-first set d ds at k e h = go (inUse set d) at (rw e at h)
   where
@@ -59,7 +68,8 @@ pub at-later : (set : ℕ) (d : Direction) (ds : List Direction) (at k : ℕ) �
 unfolding usedOf directionAt
 at-later set d ds at k e h = rw e (go (inUse set d) at (rw e at h))
   where
-    go : (b : Bool) (i : ℕ) → ones b ≤ i → directionAt (cond b (d ∷ usedOf set ds) (usedOf set ds)) i ≡ directionAt (usedOf set ds) (i - ones b)
+    go : (b : Bool) (i : ℕ) → ones b ≤ i
+        → directionAt (cond b (d ∷ usedOf set ds) (usedOf set ds)) i ≡ directionAt (usedOf set ds) (i - ones b)
     go true zero h = absurd (omega arith)
     go true (suc i) h = let e : suc i - 1 ≡ i = omega arith in rw e
     go false i h = let e : i - 0 ≡ i = omega arith in rw e
@@ -70,20 +80,23 @@ module _ (set at : ℕ) (m : ℕ) (is-m : m ≡ ones (inUse set D.M)) where
   m-at h = sym (at-first set D.M (D.N ∷ D.Theta ∷ D.T ∷ []) at m is-m h)
 
   module _ (n : ℕ) (is-n : n ≡ ones (inUse set D.N)) where
-    past-m : m ≤ at → directionAt (usedOf set parameters) at ≡ directionAt (usedOf set (D.N ∷ D.Theta ∷ D.T ∷ [])) (at - m)
+    past-m : m ≤ at → directionAt (usedOf set parameters) at
+        ≡ directionAt (usedOf set (D.N ∷ D.Theta ∷ D.T ∷ [])) (at - m)
     past-m h = at-later set D.M (D.N ∷ D.Theta ∷ D.T ∷ []) at m is-m h
 
     pub n-at : m ≤ at → at < m + n → A.Along D.N ≡ directionAt (usedOf set parameters) at
     n-at h k = sym (past-m h ∙ at-first set D.N (D.Theta ∷ D.T ∷ []) (at - m) n is-n (omega arith))
 
-    past-n : m + n ≤ at → directionAt (usedOf set parameters) at ≡ directionAt (usedOf set (D.Theta ∷ D.T ∷ [])) (at - m - n)
+    past-n : m + n ≤ at → directionAt (usedOf set parameters) at
+        ≡ directionAt (usedOf set (D.Theta ∷ D.T ∷ [])) (at - m - n)
     past-n h = past-m (omega arith) ∙ at-later set D.N (D.Theta ∷ D.T ∷ []) (at - m) n is-n (omega arith)
 
     module _ (theta : ℕ) (is-theta : theta ≡ ones (inUse set D.Theta)) where
       pub theta-at : m + n ≤ at → at < m + n + theta → A.Along D.Theta ≡ directionAt (usedOf set parameters) at
       theta-at h k = sym (past-n h ∙ at-first set D.Theta (D.T ∷ []) (at - m - n) theta is-theta (omega arith))
 
-      past-theta : m + n + theta ≤ at → directionAt (usedOf set parameters) at ≡ directionAt (usedOf set (D.T ∷ [])) (at - m - n - theta)
+      past-theta : m + n + theta ≤ at
+          → directionAt (usedOf set parameters) at ≡ directionAt (usedOf set (D.T ∷ [])) (at - m - n - theta)
       past-theta h = past-n (omega arith) ∙ at-later set D.Theta (D.T ∷ []) (at - m - n) theta is-theta (omega arith)
 
       module _ (t : ℕ) (is-t : t ≡ ones (inUse set D.T)) where
@@ -91,4 +104,6 @@ module _ (set at : ℕ) (m : ℕ) (is-m : m ≡ ones (inUse set D.M)) where
         t-at h k = sym (past-theta h ∙ at-first set D.T [] (at - m - n - theta) t is-t (omega arith))
 
         pub beyond-all : m + n + theta + t ≤ at → A.Beyond ≡ directionAt (usedOf set parameters) at
-        beyond-all h = sym (past-theta (omega arith) ∙ at-later set D.T [] (at - m - n - theta) t is-t (omega arith) ∙ unfold usedOf directionAt in refl)
+        beyond-all h =
+            sym (past-theta (omega arith) ∙ at-later set D.T [] (at - m - n - theta) t is-t (omega arith)
+            ∙ unfold usedOf directionAt in refl)

@@ -1,4 +1,5 @@
--- Which blocks come out as they went in: those that pass the test, as the queue keeps them; and those that were decoded. Assumes nothing.
+-- Which blocks come out as they went in: those that pass the test, as the queue keeps them; and those that were
+-- decoded. Assumes nothing.
 use mathlib.Core.Path.{_≡_, refl, sym, _∙_}
 use mathlib.Core.Bool.{Bool, true, false, not, _&&_, _||_, true≢false, false≢true}
 use Prim.Native.Nat.{ℕ, _^_}
@@ -20,7 +21,8 @@ use Rattle.queue.specs.declared.Last.{Last}
 use Rattle.queue.specs.declared.directions.Direction.{Direction}
 use Rattle.queue.specs.declared.directions.Direction.the-variants as D
 use Rattle.queue.specs.Directions.{inUse}
-use Rattle.queue.specs.Block.{wholeLine, isInteger, parameterOf, recalled, settledAt, settled, remembered, startingLast}
+use Rattle.queue.specs.Block.{wholeLine, isInteger, parameterOf, recalled, asQueuedAt, asQueued, remembered}
+use Rattle.queue.specs.Block.{startingLast}
 use Rattle.queue.specs.Code.{canQueue, indicesKnown}
 use Rattle.queue.proofs.QueueableLaws.{Tested, queueable}
 use Rattle.queue.proofs.RoundTrip.{ParameterFine, CanQueue, Known}
@@ -41,7 +43,7 @@ fine-format : (used integer : Bool) (p : Interval) → ParameterFine used intege
 fine-format true integer p f = f .proper refl .format
 fine-format false integer p f = rw (f .line refl) line-format
 
-recalled-is : (b : Block) (d : Direction) → recalled (remembered b) d ≡ parameterOf b d
+pub recalled-is : (b : Block) (d : Direction) → recalled (remembered b) d ≡ parameterOf b d
 unfolding remembered
 recalled-is b D.XY = refl
 recalled-is b D.M = refl
@@ -76,9 +78,12 @@ known-start = record { x = lit< tt; y = lit< tt; format = λ d. format d }
 -- remembered values that a block can have left pass the test
 pub known-test : (last : Last) → Known last → indicesKnown last ≡ true
 unfolding indicesKnown
-known-test last k = and-both (ltb (last .x) (2 ^ 47)) (ltb (last .y) (2 ^ 47)) (lt-ltb (last .x) (2 ^ 47) (k .x)) (lt-ltb (last .y) (2 ^ 47) (k .y))
+known-test last k =
+    and-both (ltb (last .x) (2 ^ 47)) (ltb (last .y) (2 ^ 47)) (lt-ltb (last .x) (2 ^ 47) (k .x))
+    (lt-ltb (last .y) (2 ^ 47) (k .y))
 
-legal-test : (used integer : Bool) (p : Interval) → ParameterFine used integer p → not used || legalInterval p integer ≡ true
+legal-test : (used integer : Bool) (p : Interval) → ParameterFine used integer p
+    → not used || legalInterval p integer ≡ true
 legal-test true integer p f = f .proper refl .legal
 legal-test false integer p f = refl
 
@@ -86,7 +91,8 @@ range-test : (c : Coordinate) → Ranged 16 (c .rank) (c .index) → legal ordin
 unfolding inRange
 range-test c r =
     and-both (leb 16 (c .rank) && ltb (c .rank) 64) (ltb (c .index) (2 ^ 47))
-    (and-both (leb 16 (c .rank)) (ltb (c .rank) 64) (le-leb 16 (c .rank) (r .low)) (lt-ltb (c .rank) 64 (r .high))) (lt-ltb (c .index) (2 ^ 47) (r .bound))
+    (and-both (leb 16 (c .rank)) (ltb (c .rank) 64) (le-leb 16 (c .rank) (r .low)) (lt-ltb (c .rank) 64 (r .high)))
+    (lt-ltb (c .index) (2 ^ 47) (r .bound))
 
 pub can-test : (set : ℕ) (b : Block) → CanQueue set b → canQueue set b ≡ true
 unfolding canQueue
@@ -101,40 +107,50 @@ can-test set b c =
     )
 
 -- the queue keeps such a block as it is
-settled-at : (used integer : Bool) (p : Interval) → ParameterFine used integer p → settledAt used p ≡ p
-settled-at true integer p f = f .proper refl .put
-settled-at false integer p f = sym (f .line refl)
+as-queued-at : (used integer : Bool) (p : Interval) → ParameterFine used integer p → asQueuedAt used p ≡ p
+as-queued-at true integer p f = f .proper refl .put
+as-queued-at false integer p f = sym (f .line refl)
 
-pub settled-is : (set : ℕ) (b : Block) → CanQueue set b → settled set b ≡ b
-unfolding settled
-settled-is set b c =
+pub as-queued-is : (set : ℕ) (b : Block) → CanQueue set b → asQueued set b ≡ b
+unfolding asQueued
+as-queued-is set b c =
     rw (
-      settled-at (inUse set D.M) true (b .m) (c .fine D.M),
-      settled-at (inUse set D.N) true (b .n) (c .fine D.N),
-      settled-at (inUse set D.Theta) true (b .theta) (c .fine D.Theta),
-      settled-at (inUse set D.T) false (b .t) (c .fine D.T),
+      as-queued-at (inUse set D.M) true (b .m) (c .fine D.M),
+      as-queued-at (inUse set D.N) true (b .n) (c .fine D.N),
+      as-queued-at (inUse set D.Theta) true (b .theta) (c .fine D.Theta),
+      as-queued-at (inUse set D.T) false (b .t) (c .fine D.T),
     )
 
 -- a block that passes the test and whose parameters are f64s comes out as the queue keeps it
-fine-settled : (used integer : Bool) (p : Interval) → InFormat p → not used || legalInterval p integer ≡ true → ParameterFine used integer (settledAt used p)
-fine-settled true integer p f e = record { proper = λ q. record { legal = put-legal p integer ∙ e; put = put-again p; format = put-format p f }; line = λ q. absurd (true≢false q) }
-fine-settled false integer p f e = record { proper = λ q. absurd (false≢true q); line = λ q. refl }
+fine-as-queued : (used integer : Bool) (p : Interval) → InFormat p → not used || legalInterval p integer ≡ true
+    → ParameterFine used integer (asQueuedAt used p)
+fine-as-queued true integer p f e =
+    record {
+      proper = λ q. record { legal = put-legal p integer ∙ e; put = put-again p; format = put-format p f };
+      line = λ q. absurd (true≢false q);
+    }
+fine-as-queued false integer p f e = record { proper = λ q. absurd (false≢true q); line = λ q. refl }
 
 pub line-fine : (used : Bool) → ParameterFine used false wholeLine
-line-fine used = record { proper = λ q. record { legal = line-legal false; put = line-put; format = line-format }; line = λ q. refl }
+line-fine used =
+    record {
+      proper = λ q. record { legal = line-legal false; put = line-put; format = line-format };
+      line = λ q. refl;
+    }
 
-pub can-queue : (set : ℕ) (b : Block) → canQueue set b ≡ true → ((d : Direction) → InFormat (parameterOf b d)) → CanQueue set (settled set b)
-unfolding settled
+pub can-queue : (set : ℕ) (b : Block) → canQueue set b ≡ true → ((d : Direction) → InFormat (parameterOf b d))
+    → CanQueue set (asQueued set b)
+unfolding asQueued
 can-queue set b e f =
     let t = queueable set b e in
     record { x = t .x; y = t .y; fine = λ d. each d t }
   where
-    each : (d : Direction) → Tested set b → ParameterFine (inUse set d) (isInteger d) (parameterOf (settled set b) d)
+    each : (d : Direction) → Tested set b → ParameterFine (inUse set d) (isInteger d) (parameterOf (asQueued set b) d)
     each D.XY t = line-fine (inUse set D.XY)
-    each D.M t = fine-settled (inUse set D.M) true (b .m) (f D.M) (t .m)
-    each D.N t = fine-settled (inUse set D.N) true (b .n) (f D.N) (t .n)
-    each D.Theta t = fine-settled (inUse set D.Theta) true (b .theta) (f D.Theta) (t .theta)
-    each D.T t = fine-settled (inUse set D.T) false (b .t) (f D.T) (t .t)
+    each D.M t = fine-as-queued (inUse set D.M) true (b .m) (f D.M) (t .m)
+    each D.N t = fine-as-queued (inUse set D.N) true (b .n) (f D.N) (t .n)
+    each D.Theta t = fine-as-queued (inUse set D.Theta) true (b .theta) (f D.Theta) (t .theta)
+    each D.T t = fine-as-queued (inUse set D.T) false (b .t) (f D.T) (t .t)
 
 -- ---- what is remembered is legal
 
@@ -142,7 +158,8 @@ pub fine-legal : (used integer : Bool) (p : Interval) → ParameterFine used int
 fine-legal true integer p f = f .proper refl .legal
 fine-legal false integer p f = rw (f .line refl) (line-legal integer)
 
-pub legal-after : (set : ℕ) (b : Block) → CanQueue set b → (d : Direction) → legalInterval (recalled (remembered b) d) (isInteger d) ≡ true
+pub legal-after : (set : ℕ) (b : Block) → CanQueue set b → (d : Direction)
+    → legalInterval (recalled (remembered b) d) (isInteger d) ≡ true
 legal-after set b c d = rw (recalled-is b d) (fine-legal (inUse set d) (isInteger d) (parameterOf b d) (c .fine d))
 
 pub legal-start : (d : Direction) → legalInterval (recalled startingLast d) (isInteger d) ≡ true

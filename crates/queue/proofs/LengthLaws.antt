@@ -20,11 +20,13 @@ pub unused-length : (used : Bool) (last p : Interval) → used ≡ false → 0 �
 unfolding parameterCode
 unused-length used last p e = rw e
 
-pub same-length : (used : Bool) (last p l q : Interval) → used ≡ true → l ≡ last → q ≡ p → sameInterval q l ≡ true → 2 ≡ length (parameterCode used last p)
+pub same-length : (used : Bool) (last p l q : Interval) → used ≡ true → l ≡ last → q ≡ p → sameInterval q l ≡ true
+    → 2 ≡ length (parameterCode used last p)
 unfolding parameterCode
 same-length used last p l q e f g h = rw (← f, ← g, e, h)
 
-pub other-length : (used : Bool) (last p l q : Interval) → used ≡ true → l ≡ last → q ≡ p → sameInterval q l ≡ false → 16 ≡ length (parameterCode used last p)
+pub other-length : (used : Bool) (last p l q : Interval) → used ≡ true → l ≡ last → q ≡ p → sameInterval q l ≡ false
+    → 16 ≡ length (parameterCode used last p)
 unfolding parameterCode
 other-length used last p l q e f g h = rw (← f, ← g, e, h) (sym (bounds-length q))
 
@@ -32,7 +34,8 @@ other-length used last p l q e f g h = rw (← f, ← g, e, h) (sym (bounds-leng
 
 pub parameters-length : (set : ℕ) (last : Last) (b : Block)
     → length (parameterCode (inUse set D.M) (last .m) (b .m)) + length (parameterCode (inUse set D.N) (last .n) (b .n))
-    + length (parameterCode (inUse set D.Theta) (last .theta) (b .theta)) + length (parameterCode (inUse set D.T) (last .t) (b .t))
+    + length (parameterCode (inUse set D.Theta) (last .theta) (b .theta))
+    + length (parameterCode (inUse set D.T) (last .t) (b .t))
     ≡ length (parametersCode set last b parameters)
 unfolding parametersCode
 parameters-length set last b =
@@ -40,8 +43,15 @@ parameters-length set last b =
     let n : List ℕ = parameterCode (inUse set D.N) (last .n) (b .n) in
     let theta : List ℕ = parameterCode (inUse set D.Theta) (last .theta) (b .theta) in
     let t : List ℕ = parameterCode (inUse set D.T) (last .t) (b .t) in
-    omega (arith, length-append m (n ++ (theta ++ (t ++ []))), length-append n (theta ++ (t ++ [])), length-append theta (t ++ []), length-append t [])
+    omega (
+      arith,
+      length-append m (n ++ (theta ++ (t ++ []))),
+      length-append n (theta ++ (t ++ [])),
+      length-append theta (t ++ []),
+      length-append t [],
+    )
 
-pub place-length : (last : Last) (b : Block) → length (coordinateCode (last .x) (b .x)) + length (coordinateCode (last .y) (b .y)) ≡ length (placeCode last b)
+pub place-length : (last : Last) (b : Block)
+    → length (coordinateCode (last .x) (b .x)) + length (coordinateCode (last .y) (b .y)) ≡ length (placeCode last b)
 unfolding placeCode
 place-length last b = sym (length-append (coordinateCode (last .x) (b .x)) (coordinateCode (last .y) (b .y)))

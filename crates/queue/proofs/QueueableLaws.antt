@@ -1,4 +1,5 @@
--- What it says of a block that it can be queued, and of remembered values that they are ones a block can have. Assumes nothing.
+-- What it says of a block that it can be queued, and of remembered values that they are ones a block can have.
+-- Assumes nothing.
 use mathlib.Core.Path.{_≡_, _∙_}
 use mathlib.Core.Bool.{Bool, true, false, _&&_}
 use Prim.Native.Nat.{ℕ, _^_, _≤_, _<_}
@@ -22,18 +23,20 @@ use Rattle.queue.specs.Code.{encode, legalIfUsed, parametersLegal, canQu
 use Rattle.queue.proofs.WriteLaws.{place-few, parameters-few, encode-length}
 
 -- a parameter by whether it is used
-pub fine-unused : (set : ℕ) (d : Direction) (p : Interval) → inUse set d ≡ false → true ≡ legalIfUsed set d p
-fine-unused set d p e = rw e
+pub legal-unused : (set : ℕ) (d : Direction) (p : Interval) → inUse set d ≡ false → true ≡ legalIfUsed set d p
+legal-unused set d p e = rw e
 
-pub fine-used : (set : ℕ) (d : Direction) (p : Interval) (integer r : Bool) → inUse set d ≡ true → integer ≡ isInteger d
+pub legal-used : (set : ℕ) (d : Direction) (p : Interval) (integer r : Bool) → inUse set d ≡ true → integer ≡ isInteger d
     → r ≡ legalInterval p integer → r ≡ legalIfUsed set d p
-fine-used set d p integer r e g h = h ∙ rw (g, e)
+legal-used set d p integer r e g h = h ∙ rw (g, e)
 
 -- each of the four
 pub each-legal : (set : ℕ) (m n theta t : Interval) → parametersLegal set m n theta t ≡ true
-    → (legalIfUsed set D.M m ≡ true) × (legalIfUsed set D.N n ≡ true) × (legalIfUsed set D.Theta theta ≡ true) × (legalIfUsed set D.T t ≡ true)
+    → (legalIfUsed set D.M m ≡ true) × (legalIfUsed set D.N n ≡ true) × (legalIfUsed set D.Theta theta ≡ true)
+    × (legalIfUsed set D.T t ≡ true)
 each-legal set m n theta t e =
-    let f = and-six true true (legalIfUsed set D.M m) (legalIfUsed set D.N n) (legalIfUsed set D.Theta theta) (legalIfUsed set D.T t) e in
+    let f = and-six true true (legalIfUsed set D.M m) (legalIfUsed set D.N n) (legalIfUsed set D.Theta theta)
+    (legalIfUsed set D.T t) e in
     (f .2, f .3, f .4, f .5)
 
 pub record Tested (set : ℕ) (b : Block) : Type 0 where
@@ -63,10 +66,14 @@ queueable set b e =
 
 pub known-indices : (last : Last) → indicesKnown last ≡ true → (last .x < 2 ^ 47) × (last .y < 2 ^ 47)
 unfolding indicesKnown
-known-indices last e = (ltb-true (last .x) (2 ^ 47) (and-left (ltb (last .x) (2 ^ 47)) (ltb (last .y) (2 ^ 47)) e), ltb-true (last .y) (2 ^ 47) (and-right (ltb (last .x) (2 ^ 47)) (ltb (last .y) (2 ^ 47)) e))
+known-indices last e = (
+  ltb-true (last .x) (2 ^ 47) (and-left (ltb (last .x) (2 ^ 47)) (ltb (last .y) (2 ^ 47)) e),
+  ltb-true (last .y) (2 ^ 47) (and-right (ltb (last .x) (2 ^ 47)) (ltb (last .y) (2 ^ 47)) e),
+)
 
 -- the longest code
-pub encode-few : (set : ℕ) (last : Last) (b : Block) → canQueue set b ≡ true → indicesKnown last ≡ true → length (encode set last b) ≤ 83
+pub encode-few : (set : ℕ) (last : Last) (b : Block) → canQueue set b ≡ true → indicesKnown last ≡ true
+    → length (encode set last b) ≤ 83
 encode-few set last b e f =
     let q = queueable set b e in
     let k = known-indices last f in

@@ -30,8 +30,11 @@ xor-cancel = bin-ind (λ (a : ℕ). (b : ℕ) → bitXor a (bitXor b a) ≡ b)
     let da : a % 2 < 2 = mod-lt a two in
     let db : b % 2 < 2 = mod-lt b two in
     let y : bitXor b a ≡ bitXor (b / 2) (a / 2) * 2 + differ (b % 2) (a % 2) = xor-step b a in
-    let yh : bitXor b a / 2 ≡ bitXor (b / 2) (a / 2) = ap (λ (n : ℕ). n / 2) y ∙ digits-div (bitXor (b / 2) (a / 2)) (differ-lt _ _ db da) in
-    let yl : bitXor b a % 2 ≡ differ (b % 2) (a % 2) = ap (λ (n : ℕ). n % 2) y ∙ digits-mod (bitXor (b / 2) (a / 2)) (differ-lt _ _ db da) in
+    let yh : bitXor b a / 2 ≡ bitXor (b / 2) (a / 2) =
+    ap (λ (n : ℕ). n / 2) y ∙ digits-div (bitXor (b / 2) (a / 2)) (differ-lt _ _ db da) in
+    let yl : bitXor b a % 2 ≡ differ (b % 2) (a % 2) =
+    ap (λ (n : ℕ). n % 2) y ∙ digits-mod (bitXor (b / 2) (a / 2)) (differ-lt _ _ db da) in
     xor-step a (bitXor b a)
-    ∙ ap₂ (λ (m n : ℕ). m * 2 + n) (ap (bitXor (a / 2)) yh ∙ ih (b / 2)) (ap (differ (a % 2)) yl ∙ differ-twice _ _ da db)
+    ∙ ap₂ (λ (m n : ℕ). m * 2 + n) (ap (bitXor (a / 2)) yh ∙ ih (b / 2))
+    (ap (differ (a % 2)) yl ∙ differ-twice _ _ da db)
     ∙ div-add-mod' b 2)

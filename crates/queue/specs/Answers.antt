@@ -1,5 +1,6 @@
--- The answers that are enums: document 01's number of each case, 0 where the call was done, and its values. A ring, a block or a memory that cannot be is
--- damage. A value that a refused call does not have is blank: 0, the memory before the first block, or the block of the whole lines at index and level 0.
+-- The answers that are enums: document 01's number of each case, 0 where the call was done, and its values. A ring,
+-- a block or a memory that cannot be is damage. A value that a refused call does not have is blank: 0, the
+-- memory before the first block, or the block of blank coordinates and whole lines.
 use Prim.Native.Nat.{ℕ}
 use Rattle.refusal.specs.Number.{number}
 use Rattle.refusal.specs.declared.Refusal.the-variants as R
@@ -17,7 +18,8 @@ use Rattle.queue.specs.declared.Copied.the-variants as C
 use Rattle.queue.specs.Block.{wholeLine, startingLast}
 
 abbrev pub blankBlock : Block
-blankBlock = record { x = blankCoordinate; y = blankCoordinate; m = wholeLine; n = wholeLine; theta = wholeLine; t = wholeLine; dir = 0 }
+blankBlock =
+    record { x = blankCoordinate; y = blankCoordinate; m = wholeLine; n = wholeLine; theta = wholeLine; t = wholeLine; dir = 0 }
 
 -- TAKE: its number, the front block, what is remembered of it, and the head and the use afterwards
 abbrev pub takenNumber : Taken → ℕ

@@ -1,5 +1,5 @@
--- The block as the queue keeps it, and what is remembered of it. Document 01, "The queue's bytes" (the starting values) and
--- "Intervals and their cutting" (how zeros are put). Our choice: an unused parameter is the whole line.
+-- The block as the queue keeps it, and what is remembered of it. Document 01, "The queue's bytes" (the starting
+-- values) and "Intervals and their cutting" (how zeros are put). Our choice: an unused parameter is the whole line.
 use mathlib.Core.Bool.{Bool, true, false, cond}
 use Prim.Native.Nat.{ℕ}
 use lib.Ieee.{inf}
@@ -48,19 +48,19 @@ recalled last D.Theta = last .theta
 recalled last D.T = last .t
 
 -- a parameter as the queue keeps it
-abbrev pub settledAt : Bool → Interval → Interval
-settledAt used p = cond used (putInterval p) wholeLine
+abbrev pub asQueuedAt : Bool → Interval → Interval
+asQueuedAt used p = cond used (putInterval p) wholeLine
 
 -- a block as the queue keeps it: used parameters put, unused ones the whole line
-unfoldable pub settled : ℕ → Block → Block
-settled set b =
+unfoldable pub asQueued : ℕ → Block → Block
+asQueued set b =
     record {
       x = b .x;
       y = b .y;
-      m = settledAt (inUse set D.M) (b .m);
-      n = settledAt (inUse set D.N) (b .n);
-      theta = settledAt (inUse set D.Theta) (b .theta);
-      t = settledAt (inUse set D.T) (b .t);
+      m = asQueuedAt (inUse set D.M) (b .m);
+      n = asQueuedAt (inUse set D.N) (b .n);
+      theta = asQueuedAt (inUse set D.Theta) (b .theta);
+      t = asQueuedAt (inUse set D.T) (b .t);
       dir = b .dir;
     }
 

@@ -3,17 +3,15 @@
 --   x index xor the remembered one, a small number     1 to 8 bytes
 --   x level, two's complement                          1 byte
 --   y likewise
---   each used parameter of m, n, n_theta, t            FF FF, the remembered one again; or 16 bytes, lower then upper, big-endian
+-- each used parameter of m, n, n_theta, t            FF FF, the remembered one again; or 16 bytes, lower then
+-- upper, big-endian
 --   direction                                          1 byte
-use mathlib.Core.Path.{_≡_}
 use mathlib.Core.Bool.{Bool, not, cond, _&&_, _||_}
 use mathlib.Core.List.{List, [], _∷_, _++_}
 use Prim.Native.Nat.{ℕ, _+_, _-_, _^_}
 use lib.Bits.{bitXor}
 use lib.Dec.{ltb}
 use lib.Ieee.{binary64, toBits}
-use lib.ListN.{length}
-use lib.Seq.{sets}
 use Rattle.base.specs.Bytes.{bigEndian}
 use Rattle.small.specs.Small.{smallCode}
 use Rattle.coordinate.specs.declared.Coordinate.{Coordinate}
@@ -47,7 +45,8 @@ parameterCode used last p = cond used (cond (sameInterval p last) (255 ∷ 255 �
 -- these parameters of a block, one after the other
 unfoldable pub parametersCode : ℕ → Last → Block → List Direction → List ℕ
 parametersCode set last b [] = []
-parametersCode set last b (d ∷ ds) = parameterCode (inUse set d) (recalled last d) (parameterOf b d) ++ parametersCode set last b ds
+parametersCode set last b (d ∷ ds) =
+    parameterCode (inUse set d) (recalled last d) (parameterOf b d) ++ parametersCode set last b ds
 
 -- x and y, which every block has, used or not
 unfoldable pub placeCode : Last → Block → List ℕ
@@ -57,17 +56,14 @@ placeCode last b = coordinateCode (last .x) (b .x) ++ coordinateCode (last .y) (
 unfoldable pub encode : ℕ → Last → Block → List ℕ
 encode set last b = placeCode last b ++ (parametersCode set last b parameters ++ (b .dir ∷ []))
 
--- a writer put these bytes into a buffer at a place, changed no other, and answers where they end
-abbrev pub Written : List ℕ → ℕ → List ℕ → ℕ → List ℕ → Type 0
-Written before at bytes end after = (end ≡ at + length bytes) × (after ≡ sets before at bytes)
-
 -- a used parameter is legal
 abbrev pub legalIfUsed : ℕ → Direction → Interval → Bool
 legalIfUsed set d p = not (inUse set d) || legalInterval p (isInteger d)
 
 -- all of them are
 abbrev pub parametersLegal : ℕ → Interval → Interval → Interval → Interval → Bool
-parametersLegal set m n theta t = legalIfUsed set D.M m && legalIfUsed set D.N n && legalIfUsed set D.Theta theta && legalIfUsed set D.T t
+parametersLegal set m n theta t =
+    legalIfUsed set D.M m && legalIfUsed set D.N n && legalIfUsed set D.Theta theta && legalIfUsed set D.T t
 
 -- what can be queued: coordinates in the ranges for index and level, used parameters legal
 unfoldable pub canQueue : ℕ → Block → Bool
@@ -77,7 +73,3 @@ canQueue set b =
 -- remembered indices stay under 2^47 as all do
 unfoldable pub indicesKnown : Last → Bool
 indicesKnown last = ltb (last .x) (2 ^ 47) && ltb (last .y) (2 ^ 47)
-
--- x and y are in their ranges, and the remembered indices too
-abbrev pub placeCodable : Coordinate → Coordinate → ℕ → ℕ → Bool
-placeCodable x y lastx lasty = legal ordinaryFloor x && legal ordinaryFloor y && ltb lastx (2 ^ 47) && ltb lasty (2 ^ 47)

@@ -1,20 +1,21 @@
--- Reading a block back from bytes: specs/Code.antt from the reader's side, total on any bytes. A head byte of 0, bytes that end early, a level's
--- byte that stands for none of the levels -32 to 15 and an illegal parameter are damage; levels of x and y that differ, a place outside the
--- picture and a direction that is not in use are not for this crate to judge. Each part is read at the front of the bytes that are left.
+-- Reading a block back from bytes: specs/Code.antt from the reader's side, total on any bytes. A head byte of 0,
+-- bytes that end early, a level's byte that stands for none of the levels -32 to 15 and an illegal parameter are
+-- damage; levels of x and y that differ, a place outside the picture and a direction that is not in use are not for
+-- this crate to judge. Each part is read at the front of the bytes that are left.
 use mathlib.Core.Bool.{Bool, cond, _&&_}
 use mathlib.Core.List.{List, [], _∷_}
-use Prim.Native.Nat.{ℕ, _+_, _-_, _≤_}
+use Prim.Native.Nat.{ℕ, _+_, _-_}
 use lib.Bits.{bitXor}
 use lib.Dec.{leb, ltb, eqb}
 use lib.ListN.{length, getD, take, drop}
 use Rattle.base.specs.Bytes.{ofBigEndian}
-use Rattle.small.specs.declared.SmallRead.{SmallRead}
-use Rattle.small.specs.declared.SmallRead.the-variants as S
+use Rattle.small.specs.declared.ReadAnswer.{ReadAnswer}
+use Rattle.small.specs.declared.ReadAnswer.the-variants as S
 use Rattle.small.specs.Small.{readSmall}
 use Rattle.coordinate.specs.declared.Coordinate.{Coordinate}
 use Rattle.interval.specs.declared.Interval.{Interval}
-use Rattle.interval.specs.declared.FromBits.{FromBits}
-use Rattle.interval.specs.declared.FromBits.the-variants as B
+use Rattle.interval.specs.declared.BitsAnswer.{BitsAnswer}
+use Rattle.interval.specs.declared.BitsAnswer.the-variants as B
 use Rattle.interval.specs.Bounds.{putInterval}
 use Rattle.interval.specs.Answers.{fromBits}
 use Rattle.queue.specs.declared.Block.{Block}
@@ -26,8 +27,8 @@ use Rattle.queue.specs.declared.read.CoordinateRead.{CoordinateRead}
 use Rattle.queue.specs.declared.read.CoordinateRead.the-variants as C
 use Rattle.queue.specs.declared.read.ParameterRead.{ParameterRead}
 use Rattle.queue.specs.declared.read.ParameterRead.the-variants as P
-use Rattle.queue.specs.declared.read.Reading.{Reading}
-use Rattle.queue.specs.declared.read.Reading.the-variants as R
+use Rattle.queue.specs.declared.read.BlockRead.{BlockRead}
+use Rattle.queue.specs.declared.read.BlockRead.the-variants as R
 use Rattle.queue.specs.Directions.{inUse, parameters}
 use Rattle.queue.specs.Block.{wholeLine, isInteger, withParameter, recalled}
 
@@ -43,7 +44,7 @@ abbrev pub coordinateWith : ℕ → ℕ → LevelRead → CoordinateRead
 coordinateWith index count (L.Rank rank) = C.Read (record { index = index; rank = rank }) (count + 1)
 coordinateWith index count L.Damaged = C.Damaged
 
-unfoldable pub coordinateOf : ℕ → List ℕ → SmallRead → CoordinateRead
+unfoldable pub coordinateOf : ℕ → List ℕ → ReadAnswer → CoordinateRead
 coordinateOf last s (S.Number x count) = coordinateWith (bitXor last x) count (levelRead (drop count s))
 coordinateOf last s (S.Refused why) = C.Damaged
 
@@ -51,15 +52,18 @@ unfoldable pub coordinateRead : ℕ → List ℕ → CoordinateRead
 coordinateRead last s = coordinateOf last s (readSmall s)
 
 -- the bounds of a parameter from their 16 bytes
-abbrev pub boundsOf : FromBits → ParameterRead
+abbrev pub boundsOf : BitsAnswer → ParameterRead
 boundsOf (B.Bounds p) = P.Read p 16
 boundsOf (B.Refused why) = P.Damaged
 
 unfoldable pub boundsRead : Bool → List ℕ → ParameterRead
-boundsRead integer s = cond (leb 16 (length s)) (boundsOf (fromBits (ofBigEndian (take 8 s)) (ofBigEndian (take 8 (drop 8 s))) integer)) P.Damaged
+boundsRead integer s =
+    cond (leb 16 (length s)) (boundsOf (fromBits (ofBigEndian (take 8 s)) (ofBigEndian (take 8 (drop 8 s))) integer))
+    P.Damaged
 
--- a used parameter: FF FF is the remembered one; an unused one is the whole line and took no byte.
--- FF FF over an illegal remembered interval is read as a block all the same: the record's own test refuses such a memory before a block is taken.
+-- a used parameter: FF FF is the remembered one; an unused one is the whole line and took no byte. FF FF over an
+-- illegal remembered interval is read as a block all the same: the record's own test refuses such a memory before a
+-- block is taken.
 unfoldable pub usedRead : Bool → Interval → List ℕ → ParameterRead
 usedRead integer last s =
     cond (leb 2 (length s))
@@ -70,73 +74,48 @@ unfoldable pub parameterRead : Bool → Bool → Interval → List ℕ → Param
 parameterRead used integer last s = cond used (usedRead integer last s) (P.Read wholeLine 0)
 
 -- x and y: the rest of the block is to come
-abbrev pub withPlace : Coordinate → Coordinate → ℕ → Reading
-withPlace x y at = R.Read (record { x = x; y = y; m = wholeLine; n = wholeLine; theta = wholeLine; t = wholeLine; dir = 0 }) at
+abbrev pub withPlace : Coordinate → Coordinate → ℕ → BlockRead
+withPlace x y at =
+    R.Read (record { x = x; y = y; m = wholeLine; n = wholeLine; theta = wholeLine; t = wholeLine; dir = 0 }) at
 
-abbrev pub withY : Coordinate → ℕ → CoordinateRead → Reading
+abbrev pub withY : Coordinate → ℕ → CoordinateRead → BlockRead
 withY x count (C.Read y n) = withPlace x y (count + n)
 withY x count C.Damaged = R.Damaged
 
-unfoldable pub withX : Last → List ℕ → CoordinateRead → Reading
+unfoldable pub withX : Last → List ℕ → CoordinateRead → BlockRead
 withX last s (C.Read x count) = withY x count (coordinateRead (last .y) (drop count s))
 withX last s C.Damaged = R.Damaged
 
-unfoldable pub placeRead : Last → List ℕ → Reading
+unfoldable pub placeRead : Last → List ℕ → BlockRead
 placeRead last s = withX last s (coordinateRead (last .x) s)
 
 -- what was read so far, with one parameter more
-abbrev pub withRead : Block → Direction → ℕ → ParameterRead → Reading
+abbrev pub withRead : Block → Direction → ℕ → ParameterRead → BlockRead
 withRead b d count (P.Read p n) = R.Read (withParameter b d p) (count + n)
 withRead b d count P.Damaged = R.Damaged
 
-unfoldable pub addParameter : ℕ → Last → List ℕ → Direction → Reading → Reading
-addParameter set last s d (R.Read b count) = withRead b d count (parameterRead (inUse set d) (isInteger d) (recalled last d) (drop count s))
+unfoldable pub addParameter : ℕ → Last → List ℕ → Direction → BlockRead → BlockRead
+addParameter set last s d (R.Read b count) =
+    withRead b d count (parameterRead (inUse set d) (isInteger d) (recalled last d) (drop count s))
 addParameter set last s d R.Damaged = R.Damaged
 
 -- these parameters, one after the other
-unfoldable pub addParameters : ℕ → Last → List ℕ → List Direction → Reading → Reading
+unfoldable pub addParameters : ℕ → Last → List ℕ → List Direction → BlockRead → BlockRead
 addParameters set last s [] r = r
 addParameters set last s (d ∷ ds) r = addParameters set last s ds (addParameter set last s d r)
 
-unfoldable pub addDirection : List ℕ → Reading → Reading
+unfoldable pub addDirection : List ℕ → BlockRead → BlockRead
 addDirection s (R.Read b count) =
     cond (ltb count (length s))
-    (R.Read (record { x = b .x; y = b .y; m = b .m; n = b .n; theta = b .theta; t = b .t; dir = getD s count 0 }) (count + 1))
+    (R.Read (record { x = b .x; y = b .y; m = b .m; n = b .n; theta = b .theta; t = b .t; dir = getD s count 0 })
+    (count + 1))
     R.Damaged
 addDirection s R.Damaged = R.Damaged
 
 -- the parameters and the direction, behind x and y
-abbrev pub restRead : ℕ → Last → List ℕ → Reading → Reading
+abbrev pub restRead : ℕ → Last → List ℕ → BlockRead → BlockRead
 restRead set last s r = addDirection s (addParameters set last s parameters r)
 
 -- the block at the front of some bytes, and how many bytes its code takes
-unfoldable pub decode : ℕ → Last → List ℕ → Reading
+unfoldable pub decode : ℕ → Last → List ℕ → BlockRead
 decode set last s = restRead set last s (placeRead last s)
-
--- The reader keeps the parameters apart and makes the block at the end. A parameter behind another: where its bytes end stands in place of their count.
-abbrev pub endsAt : ℕ → ParameterRead → ParameterRead
-endsAt at (P.Read p n) = P.Read p (at + n)
-endsAt at P.Damaged = P.Damaged
-
-unfoldable pub parameterBehind : ℕ → Direction → Interval → List ℕ → ParameterRead → ParameterRead
-parameterBehind set d last s (P.Read p at) = endsAt at (parameterRead (inUse set d) (isInteger d) last (drop at s))
-parameterBehind set d last s P.Damaged = P.Damaged
-
--- it ends inside the bytes
-abbrev pub EndsInside : List ℕ → ParameterRead → Type 0
-EndsInside s (P.Read p at) = at ≤ length s
-EndsInside s P.Damaged = Unit {0}
-
--- its interval
-abbrev pub intervalRead : ParameterRead → Interval
-intervalRead (P.Read p at) = p
-intervalRead P.Damaged = wholeLine
-
--- the direction behind a block without one
-abbrev pub directionRead : List ℕ → Block → ℕ → Reading
-directionRead s b at = addDirection s (R.Read b at)
-
--- the same behind the last parameter, with the three before it
-abbrev pub endRead : List ℕ → Coordinate → Coordinate → Interval → Interval → Interval → ParameterRead → Reading
-endRead s x y m n theta (P.Read t at) = directionRead s (record { x = x; y = y; m = m; n = n; theta = theta; t = t; dir = 0 }) at
-endRead s x y m n theta P.Damaged = R.Damaged

@@ -35,7 +35,3 @@ unfoldable pub directionAt : List Direction → ℕ → DirectionAt
 directionAt [] at = A.Beyond
 directionAt (d ∷ ds) zero = A.Along d
 directionAt (d ∷ ds) (suc at) = directionAt ds at
-
--- 1 for yes, 0 for no
-abbrev pub ones : Bool → ℕ
-ones b = cond b 1 0

@@ -9,17 +9,18 @@ ghost use Rattle.base.specs.Bytes.{littleEndian, bigEndian};
 ghost use Rattle.small.specs.Small.{smallCode};
 ghost use Rattle.queue.specs.Directions.{inUse, parameters};
 ghost use Rattle.queue.specs.Block.{parameterOf, recalled};
-ghost use Rattle.queue.specs.Code.{levelByte, coordinateCode, boundsCode, parameterCode, parametersCode, placeCode, encode, legalIfUsed, parametersLegal, canQueue, indicesKnown, placeCodable, Written};
+ghost use Rattle.queue.specs.Code.{levelByte, coordinateCode, boundsCode, parameterCode, parametersCode};
+ghost use Rattle.queue.specs.Code.{placeCode, encode, canQueue, indicesKnown};
+ghost use Rattle.queue.specs.CodeComputed.{Written};
 use super::Block;
 use super::Last;
 use super::directions::Direction;
 use super::directions::is_used;
-use super::kept::is_integer;
 use super::kept::parameter_of;
 use super::kept::recall;
-use coordinate::Coordinate;
+use coordinate::PIXEL_RANK;
 use interval::Interval;
-use small::Coded;
+use small::CodeAnswer;
 
 // The low bytes of a number, lowest first.
 fn put_little(out: &mut [u8], at: usize, v: u64, count: usize)
@@ -53,12 +54,12 @@ fn put_number(out: &mut [u8], at: usize, x: u64) -> usize
     ensures { λ r. ⌜ Written (now (out .entry)) at (smallCode x) r (now (out .exit)) ⌝ }
 {
     match small::write_small(x) {
-        Coded::Code { head, tail, count } => {
+        CodeAnswer::Code { head, tail, count } => {
             out[at] = head;
             put_little(out, at + 1, tail, count);
             at + 1 + count
         }
-        Coded::Refused(_) => at,
+        CodeAnswer::Refused(_) => at,
     }
 }
 
@@ -67,7 +68,11 @@ fn level_byte(rank: u8) -> u8
     requires { ⌜ rank < 64 ⌝ }
     ensures { λ r. ⌜ r ≡ levelByte rank ⌝ }
 {
-    if rank < 48 { rank + 208 } else { rank - 48 }
+    if rank < PIXEL_RANK {
+        rank + 208
+    } else {
+        rank - PIXEL_RANK
+    }
 }
 
 // A coordinate against the remembered index.
@@ -159,34 +164,4 @@ pub(crate) fn put_block(out: &mut [u8], set: u8, last: Last, b: Block) -> usize
     let end = put_parameters(out, place, set, last, b);
     out[end] = b.dir;
     end + 1
-}
-
-// Whether a parameter is legal, if it is used.
-fn is_fine(set: u8, d: Direction, p: Interval) -> bool
-    ensures { λ r. ⌜ r ≡ legalIfUsed set d p ⌝ }
-{
-    if !is_used(set, d) {
-        return true;
-    }
-    interval::is_legal(p, is_integer(d))
-}
-
-// Whether all four are: of a block, or of a setup's ranges.
-pub fn are_fine(set: u8, m: Interval, n: Interval, theta: Interval, t: Interval) -> bool
-    ensures { λ r. ⌜ r ≡ parametersLegal set m n theta t ⌝ }
-{
-    let fine_m = is_fine(set, Direction::M, m);
-    let fine_n = is_fine(set, Direction::N, n);
-    let fine_theta = is_fine(set, Direction::Theta, theta);
-    let fine_t = is_fine(set, Direction::T, t);
-    fine_m & fine_n & fine_theta & fine_t
-}
-
-// Whether x and y can be queued, and the remembered indices are ones that a block can have.
-pub(crate) fn is_place(x: Coordinate, y: Coordinate, lastx: u64, lasty: u64) -> bool
-    ensures { λ r. ⌜ r ≡ placeCodable x y lastx lasty ⌝ }
-{
-    let fine_x = coordinate::is_legal(x);
-    let fine_y = coordinate::is_legal(y);
-    fine_x & fine_y & (lastx < 140737488355328) & (lasty < 140737488355328)
 }

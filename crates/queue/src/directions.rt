@@ -3,7 +3,8 @@
 ghost use mathlib.Core.Path.{_≡_};
 ghost use Prim.Native.Nat.{_≤_};
 ghost use lib.ListN.{length};
-ghost use Rattle.queue.specs.Directions.{inUse, directions, directionAt, ones, usedOf, parameters};
+ghost use Rattle.queue.specs.Directions.{inUse, directions, directionAt, usedOf, parameters};
+ghost use Rattle.queue.specs.DirectionsComputed.{ones};
 
 // The ways to cut a block: both coordinates at once, or one parameter.
 pub enum Direction {

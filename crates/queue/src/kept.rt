@@ -1,7 +1,8 @@
 // A block's parameters by direction, the block as the queue keeps it, and what is remembered of it.
 ghost use mathlib.Core.Path.{_≡_};
 ghost use Rattle.queue.specs.Directions.{inUse};
-ghost use Rattle.queue.specs.Block.{wholeLine, isInteger, parameterOf, withParameter, recalled, settled, settledAt, remembered, startingLast};
+ghost use Rattle.queue.specs.Block.{wholeLine, isInteger, parameterOf, withParameter, recalled, asQueued};
+ghost use Rattle.queue.specs.Block.{asQueuedAt, remembered, startingLast};
 use super::Block;
 use super::Last;
 use super::directions::Direction;
@@ -84,13 +85,13 @@ pub(crate) fn recall(last: Last, d: Direction) -> Interval
 }
 
 // The block as the queue keeps it: used parameters with their zeros put, unused ones the whole line.
-pub fn settle(set: u8, b: Block) -> Block
-    ensures { λ r. ⌜ r ≡ settled set b ⌝ }
+pub fn as_queued(set: u8, b: Block) -> Block
+    ensures { λ r. ⌜ r ≡ asQueued set b ⌝ }
 {
-    let m = settle_one(set, Direction::M, b.m);
-    let n = settle_one(set, Direction::N, b.n);
-    let theta = settle_one(set, Direction::Theta, b.theta);
-    let t = settle_one(set, Direction::T, b.t);
+    let m = as_queued_one(set, Direction::M, b.m);
+    let n = as_queued_one(set, Direction::N, b.n);
+    let theta = as_queued_one(set, Direction::Theta, b.theta);
+    let t = as_queued_one(set, Direction::T, b.t);
     let x = b.x;
     let y = b.y;
     Block {
@@ -105,8 +106,8 @@ pub fn settle(set: u8, b: Block) -> Block
 }
 
 // One parameter of it.
-fn settle_one(set: u8, d: Direction, p: Interval) -> Interval
-    ensures { λ r. ⌜ r ≡ settledAt (inUse set d) p ⌝ }
+fn as_queued_one(set: u8, d: Direction, p: Interval) -> Interval
+    ensures { λ r. ⌜ r ≡ asQueuedAt (inUse set d) p ⌝ }
 {
     if is_used(set, d) {
         interval::put(p)
@@ -137,7 +138,7 @@ pub fn remember(b: Block) -> Last
 
 // The same in a set without parameters: only the place is looked at.
 pub(crate) fn remember_place(b: Block) -> Last
-    ensures { λ r. ⌜ r ≡ remembered (settled 0 b) ⌝ }
+    ensures { λ r. ⌜ r ≡ remembered (asQueued 0 b) ⌝ }
 {
     let x = b.x;
     let y = b.y;

@@ -6,7 +6,8 @@ ghost use lib.ListN.{length};
 ghost use Rattle.small.specs.Small.{smallCode};
 ghost use Rattle.queue.specs.Directions.{inUse, parameters};
 ghost use Rattle.queue.specs.Block.{parameterOf, recalled};
-ghost use Rattle.queue.specs.Code.{coordinateCode, parameterCode, parametersCode, placeCode, encode, canQueue, indicesKnown};
+ghost use Rattle.queue.specs.Code.{coordinateCode, parameterCode, parametersCode, placeCode, encode, canQueue};
+ghost use Rattle.queue.specs.Code.{indicesKnown};
 use super::Block;
 use super::Last;
 use super::directions::Direction;
@@ -14,15 +15,15 @@ use super::directions::is_used;
 use super::kept::parameter_of;
 use super::kept::recall;
 use coordinate::Coordinate;
-use small::Coded;
+use small::CodeAnswer;
 
 // The bytes of a small number.
 fn number_length(x: u64) -> usize
     ensures { λ r. ⌜ r ≡ length (smallCode x) ⌝ }
 {
     match small::write_small(x) {
-        Coded::Code { head, tail, count } => count + 1,
-        Coded::Refused(_) => 0,
+        CodeAnswer::Code { head, tail, count } => count + 1,
+        CodeAnswer::Refused(_) => 0,
     }
 }
 

@@ -1,5 +1,5 @@
-// Reading a block back out of the ring's two runs, byte by byte where a code lies across them.
-// Nothing past the runs is looked at; what is no code is Damaged.
+// Reading a block back out of the ring's two stretches, byte by byte where a code lies across them.
+// Nothing past the stretches is looked at; what is no code is Damaged.
 ghost use mathlib.Core.Path.{_≡_};
 ghost use mathlib.Core.List.{_++_};
 ghost use Prim.Native.Nat.{_+_, _≤_, min};
@@ -7,7 +7,9 @@ ghost use lib.ListN.{length, take, drop};
 ghost use lib.Seq.{sets};
 ghost use Rattle.base.specs.Bytes.{ofBigEndian};
 ghost use Rattle.small.specs.Small.{readSmall};
-ghost use Rattle.queue.specs.Decode.{levelOf, levelRead, coordinateRead, boundsRead, usedRead, parameterRead, withPlace, withY, restRead, decode, parameterBehind, EndsInside, intervalRead, directionRead, endRead};
+ghost use Rattle.queue.specs.Decode.{levelOf, levelRead, coordinateRead, boundsRead, usedRead, parameterRead};
+ghost use Rattle.queue.specs.Decode.{withPlace, withY, restRead, decode};
+ghost use Rattle.queue.specs.DecodeComputed.{parameterBehind, EndsInside, intervalRead, directionRead, endRead};
 use super::Block;
 use super::Last;
 use super::directions::Direction;
@@ -17,9 +19,10 @@ use super::kept::whole_line;
 use super::ring::byte_at;
 use super::ring::part;
 use coordinate::Coordinate;
-use interval::FromBits;
+use coordinate::PIXEL_RANK;
+use interval::BitsAnswer;
 use interval::Interval;
-use small::SmallRead;
+use small::ReadAnswer;
 
 // A level's rank.
 enum LevelRead {
@@ -43,12 +46,12 @@ pub enum ParameterRead {
 }
 
 // A block, and how many bytes it took.
-pub enum Reading {
+pub enum BlockRead {
     Read { block: Block, count: usize },
     Damaged,
 }
 
-// Copies bytes of the two runs from an offset on.
+// Copies bytes of the two stretches from an offset on.
 fn gather<'a>(out: &mut [u8], older: &'a [u8], newer: &'a [u8], at: usize, count: usize)
     requires { ⌜ (at + count ≤ length (now older) + length (now newer)) × (count ≤ length (now out)) ⌝ }
     ensures { λ _. ⌜ now (out .exit) ≡ sets (now (out .entry)) 0 (take count (drop at (now (older .entry) ++ now (newer .entry)))) ⌝ }
@@ -65,8 +68,8 @@ fn at_most_eight(left: usize) -> usize
     if left < 8 { left } else { 8 }
 }
 
-// A small number whose bytes may lie in both runs.
-fn read_across<'a>(older: &'a [u8], newer: &'a [u8], at: usize) -> SmallRead
+// A small number whose bytes may lie in both stretches.
+fn read_across<'a>(older: &'a [u8], newer: &'a [u8], at: usize) -> ReadAnswer
     requires { ⌜ at ≤ length (now older) + length (now newer) ⌝ }
     ensures { λ r. ⌜ r ≡ readSmall (take 8 (drop at (now (older .entry) ++ now (newer .entry)))) ⌝ }
 {
@@ -77,15 +80,15 @@ fn read_across<'a>(older: &'a [u8], newer: &'a [u8], at: usize) -> SmallRead
     small::read_small(&bytes[0..count])
 }
 
-// A small number, from one run where it lies in one.
-fn read_number<'a>(older: &'a [u8], newer: &'a [u8], at: usize) -> SmallRead
+// A small number, from one stretch where it lies in one.
+fn read_number<'a>(older: &'a [u8], newer: &'a [u8], at: usize) -> ReadAnswer
     requires { ⌜ at ≤ length (now older) + length (now newer) ⌝ }
     ensures { λ r. ⌜ r ≡ readSmall (drop at (now (older .entry) ++ now (newer .entry))) ⌝ }
 {
     let near = small::read_small(part(older, newer, at));
     match near {
-        SmallRead::Number { x, count } => SmallRead::Number { x, count },
-        SmallRead::Refused(_) => read_across(older, newer, at),
+        ReadAnswer::Number { x, count } => ReadAnswer::Number { x, count },
+        ReadAnswer::Refused(_) => read_across(older, newer, at),
     }
 }
 
@@ -94,7 +97,7 @@ fn level_of(byte: u8) -> LevelRead
     ensures { λ r. ⌜ r ≡ levelOf byte ⌝ }
 {
     match byte {
-        0..=15 => LevelRead::Rank(byte + 48),
+        0..=15 => LevelRead::Rank(byte + PIXEL_RANK),
         224..=255 => LevelRead::Rank(byte - 208),
         _ => LevelRead::Damaged,
     }
@@ -117,8 +120,8 @@ fn read_coordinate<'a>(older: &'a [u8], newer: &'a [u8], at: usize, last: u64) -
     ensures { λ r. ⌜ r ≡ coordinateRead last (drop at (now (older .entry) ++ now (newer .entry))) ⌝ }
 {
     match read_number(older, newer, at) {
-        SmallRead::Refused(_) => CoordinateRead::Damaged,
-        SmallRead::Number { x, count } => match read_level(older, newer, at + count) {
+        ReadAnswer::Refused(_) => CoordinateRead::Damaged,
+        ReadAnswer::Number { x, count } => match read_level(older, newer, at + count) {
             LevelRead::Damaged => CoordinateRead::Damaged,
             LevelRead::Rank(rank) => {
                 let coordinate = Coordinate {
@@ -164,11 +167,11 @@ fn read_bounds<'a>(older: &'a [u8], newer: &'a [u8], at: usize, integer: bool) -
     let lower = read_word(older, newer, at);
     let upper = read_word(older, newer, at + 8);
     match interval::interval_from_bits(lower, upper, integer) {
-        FromBits::Bounds(interval) => ParameterRead::Read {
+        BitsAnswer::Bounds(interval) => ParameterRead::Read {
             interval,
             count: 16,
         },
-        FromBits::Refused(_) => ParameterRead::Damaged,
+        BitsAnswer::Refused(_) => ParameterRead::Damaged,
     }
 }
 
@@ -262,11 +265,11 @@ fn read_direction<'a>(
     theta: Interval,
     t: Interval,
     at: usize,
-) -> Reading
+) -> BlockRead
     ensures { λ r. ⌜ r ≡ directionRead (now (older .entry) ++ now (newer .entry)) (record { x = x; y = y; m = m; n = n; theta = theta; t = t; dir = 0 }) at ⌝ }
 {
     if older.len() + newer.len() <= at {
-        return Reading::Damaged;
+        return BlockRead::Damaged;
     }
     let dir = byte_at(older, newer, at);
     let block = Block {
@@ -278,7 +281,7 @@ fn read_direction<'a>(
         t,
         dir,
     };
-    Reading::Read {
+    BlockRead::Read {
         block,
         count: at + 1,
     }
@@ -294,11 +297,11 @@ fn read_end<'a>(
     n: ParameterRead,
     theta: ParameterRead,
     t: ParameterRead,
-) -> Reading
+) -> BlockRead
     ensures { λ r. ⌜ r ≡ endRead (now (older .entry) ++ now (newer .entry)) x y (intervalRead m) (intervalRead n) (intervalRead theta) t ⌝ }
 {
     match t {
-        ParameterRead::Damaged => Reading::Damaged,
+        ParameterRead::Damaged => BlockRead::Damaged,
         ParameterRead::Read { interval, count } => read_direction(
             older,
             newer,
@@ -322,7 +325,7 @@ fn read_parameters<'a>(
     x: Coordinate,
     y: Coordinate,
     at: usize,
-) -> Reading
+) -> BlockRead
     requires { ⌜ at ≤ length (now older) + length (now newer) ⌝ }
     ensures { λ r. ⌜ r ≡ restRead set last (now (older .entry) ++ now (newer .entry)) (withPlace x y at) ⌝ }
 {
@@ -347,7 +350,7 @@ fn read_rest<'a>(
     x: Coordinate,
     y: Coordinate,
     at: usize,
-) -> Reading
+) -> BlockRead
     requires { ⌜ at ≤ length (now older) + length (now newer) ⌝ }
     ensures { λ r. ⌜ r ≡ restRead set last (now (older .entry) ++ now (newer .entry)) (withPlace x y at) ⌝ }
 {
@@ -366,12 +369,12 @@ fn read_y<'a>(
     last: Last,
     x: Coordinate,
     at: usize,
-) -> Reading
+) -> BlockRead
     requires { ⌜ at ≤ length (now older) + length (now newer) ⌝ }
     ensures { λ r. ⌜ r ≡ restRead set last (now (older .entry) ++ now (newer .entry)) (withY x at (coordinateRead (last .y) (drop at (now (older .entry) ++ now (newer .entry))))) ⌝ }
 {
     match read_coordinate(older, newer, at, last.y) {
-        CoordinateRead::Damaged => Reading::Damaged,
+        CoordinateRead::Damaged => BlockRead::Damaged,
         CoordinateRead::Read {
             coordinate: y,
             count,
@@ -379,12 +382,12 @@ fn read_y<'a>(
     }
 }
 
-// The block at the front of the two runs, against the remembered values.
-pub(crate) fn read_block<'a>(older: &'a [u8], newer: &'a [u8], set: u8, last: Last) -> Reading
+// The block at the front of the two stretches, against the remembered values.
+pub(crate) fn read_block<'a>(older: &'a [u8], newer: &'a [u8], set: u8, last: Last) -> BlockRead
     ensures { λ r. ⌜ r ≡ decode set last (now (older .entry) ++ now (newer .entry)) ⌝ }
 {
     match read_coordinate(older, newer, 0, last.x) {
-        CoordinateRead::Damaged => Reading::Damaged,
+        CoordinateRead::Damaged => BlockRead::Damaged,
         CoordinateRead::Read {
             coordinate: x,
             count,

@@ -1,13 +1,13 @@
 // The ring: a lent byte buffer, the position of its first used byte (head) and the number of bytes used.
-// What it holds lies in two runs: the older from the head on, the newer from byte 0 on.
+// What it holds lies in two stretches: the older from the head on, the newer from byte 0 on.
 ghost use mathlib.Core.Path.{_≡_};
 ghost use mathlib.Core.List.{_++_};
 ghost use Prim.Native.Nat.{_+_, _^_, _≤_, _<_};
 ghost use lib.ListN.{length, getD, take};
 ghost use lib.Seq.{sets};
-ghost use Rattle.queue.specs.Ring.{partOf, behind, partPlace, olderRun, newerRun, stored, wrapped};
+ghost use Rattle.queue.specs.Ring.{partOf, behind, partPlace, fitsRing, olderStretch, newerStretch, stored, wrapped};
 
-// The bytes at an offset of the two runs: a part of one of them, to that run's end. The contract says which bytes, and where they lie.
+// The bytes at an offset of the two stretches: a part of one of them, to its end. The contract says which bytes, and where they lie.
 pub fn part<'a>(older: &'a [u8], newer: &'a [u8], at: usize) -> &'a [u8]
     ensures { λ r. ⌜ now r ≡ partOf (now (older .entry)) (now (newer .entry)) at ⌝ }
     ensures { λ r. ⌜ r .ptr ≡ partPlace (older .entry .ptr) (length (now (older .entry))) (newer .entry .ptr) (length (now (newer .entry))) at ⌝ }
@@ -23,7 +23,7 @@ pub fn part<'a>(older: &'a [u8], newer: &'a [u8], at: usize) -> &'a [u8]
     &newer[end..]
 }
 
-// The byte at an offset of the two runs.
+// The byte at an offset of the two stretches.
 pub(crate) fn byte_at<'a>(older: &'a [u8], newer: &'a [u8], at: usize) -> u8
     requires { ⌜ at < length (now older) + length (now newer) ⌝ }
     ensures { λ r. ⌜ r ≡ getD (now (older .entry) ++ now (newer .entry)) at 0 ⌝ }
@@ -32,10 +32,17 @@ pub(crate) fn byte_at<'a>(older: &'a [u8], newer: &'a [u8], at: usize) -> u8
     p[0]
 }
 
-// The run from the head on.
-pub(crate) fn older_run(ring: &[u8], head: usize, used: usize) -> &[u8]
+// Whether head and use fit a ring of so many bytes.
+pub(crate) fn fits_ring(len: usize, head: usize, used: usize) -> bool
+    ensures { λ r. ⌜ r ≡ fitsRing len head used ⌝ }
+{
+    (head < len) & (used <= len)
+}
+
+// The stretch from the head on.
+pub(crate) fn older_stretch(ring: &[u8], head: usize, used: usize) -> &[u8]
     requires { ⌜ (head ≤ length (now ring)) × (used ≤ length (now ring)) ⌝ }
-    ensures { λ r. ⌜ now r ≡ olderRun (now (ring .entry)) head used ⌝ }
+    ensures { λ r. ⌜ now r ≡ olderStretch (now (ring .entry)) head used ⌝ }
     ensures { λ r. ⌜ r .ptr ≡ behind (ring .entry .ptr) head ⌝ }
 {
     let room = ring.len() - head;
@@ -45,10 +52,10 @@ pub(crate) fn older_run(ring: &[u8], head: usize, used: usize) -> &[u8]
     &ring[head..]
 }
 
-// The run that goes on at byte 0.
-pub(crate) fn newer_run(ring: &[u8], head: usize, used: usize) -> &[u8]
+// The stretch that goes on at byte 0.
+pub(crate) fn newer_stretch(ring: &[u8], head: usize, used: usize) -> &[u8]
     requires { ⌜ (head ≤ length (now ring)) × (used ≤ length (now ring)) ⌝ }
-    ensures { λ r. ⌜ now r ≡ newerRun (now (ring .entry)) head used ⌝ }
+    ensures { λ r. ⌜ now r ≡ newerStretch (now (ring .entry)) head used ⌝ }
     ensures { λ r. ⌜ r .ptr ≡ ring .entry .ptr ⌝ }
 {
     let room = ring.len() - head;
@@ -106,8 +113,8 @@ fn store_round(ring: &mut [u8], from: usize, source: &[u8], count: usize)
     }
 }
 
-// Stores both runs from byte 0 on, one behind the other.
-pub(crate) fn store_runs<'a>(ring: &mut [u8], older: &'a [u8], newer: &'a [u8])
+// Stores both stretches from byte 0 on, one behind the other.
+pub(crate) fn store_stretches<'a>(ring: &mut [u8], older: &'a [u8], newer: &'a [u8])
     requires { ⌜ length (now older) + length (now newer) ≤ length (now ring) ⌝ }
     ensures { λ _. ⌜ now (ring .exit) ≡ sets (now (ring .entry)) 0 (now (older .entry) ++ now (newer .entry)) ⌝ }
 {

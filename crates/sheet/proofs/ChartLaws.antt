@@ -16,25 +16,26 @@ use Rattle.image.specs.Cell.{Cell, reading, byteOf, characterOf}
 use Rattle.queue.proofs.RingLaws.{rest-all}
 use Rattle.decide.specs.Damage.{legalSide, legalSet, legalChosen}
 use Rattle.implicit.specs.declared.state.State.{State}
-use Rattle.implicit.specs.declared.state.Started.{Started}
-use Rattle.implicit.specs.declared.state.Started.the-variants as S
-use Rattle.implicit.specs.declared.state.Ran.{Ran}
-use Rattle.implicit.specs.declared.state.Ran.the-variants as A
+use Rattle.implicit.specs.declared.state.SetupAnswer.{SetupAnswer}
+use Rattle.implicit.specs.declared.state.SetupAnswer.the-variants as S
+use Rattle.implicit.specs.declared.state.RunAnswer.{RunAnswer}
+use Rattle.implicit.specs.declared.state.RunAnswer.the-variants as A
 use Rattle.implicit.specs.declared.state.Ending.{Ending}
-use Rattle.implicit.specs.declared.state.Counts.{Counts}
-use Rattle.implicit.specs.declared.state.Counted.the-variants as C
-use Rattle.implicit.specs.declared.state.Drawn.{Drawn}
-use Rattle.implicit.specs.declared.state.Drawn.the-variants as D
+use Rattle.implicit.specs.declared.state.Tally.{Tally}
+use Rattle.implicit.specs.declared.state.CountsAnswer.the-variants as C
+use Rattle.implicit.specs.declared.state.CallAnswer.{CallAnswer}
+use Rattle.implicit.specs.declared.state.CallAnswer.the-variants as D
 use Rattle.implicit.specs.Record.{pixelCount, pixelCells}
-use Rattle.implicit.specs.Setup.{cleared, startedAnswer, ringBegun, cellsBegun}
+use Rattle.implicit.specs.Setup.{cleared, setupAnswer, ringBegun, cellsBegun}
 use Rattle.implicit.specs.Step.{World, worldOf}
-use Rattle.implicit.specs.Run.{RunAnswer, notRun, hasRun, runOf, RunsAs}
-use Rattle.implicit.specs.View.{pictureBytes, pictureLeft, pictureAnswer, ifDrawn, countsOf, countsAnswer}
+use Rattle.implicit.specs.Run.{RunResult, notRun, hasRun, runOf, RunsAs}
+use Rattle.implicit.specs.View.{pictureBytes, pictureLeft, pictureAnswer, ifDone, countsOf, countsAnswer}
 use Rattle.implicit.proofs.RecordLaws.{sound-chosen}
 use Rattle.implicit.proofs.ViewLaws.{Viewable, viewable-drawn, drawn-viewable, countedIf, counts-as-picture, picture-length}
 use Rattle.sheet.specs.declared.head.Order.{Order}
 use Rattle.sheet.specs.Layout.{orderIn, takenSheet}
-use Rattle.sheet.specs.Text.{rowsOf, characters, symbolOf, refusedText}
+use Rattle.sheet.specs.Text.{rowsOf, characters, refusedText}
+use Rattle.sheet.specs.WritingComputed.{symbolOf}
 use Rattle.sheet.specs.Printed.{freshRing, freshCells, viewText, ranText, orderText, textOf}
 use Rattle.sheet.proofs.RowLaws.{rows-front}
 
@@ -63,11 +64,11 @@ rows-shown s cells rest h =
 
 -- A CHART THAT IS COUNTED
 
-drawn-if : (d : Drawn) (m n : Counts) → countedIf d m ≡ C.Of n → d ≡ D.Done
+drawn-if : (d : CallAnswer) (m n : Tally) → countedIf d m ≡ C.Of n → d ≡ D.Done
 drawn-if D.Done m n e = refl
 drawn-if (D.Refused why) m n e = let z : _≡_ {A = ℕ} 0 1 = cc in absurd (omega arith)
 
-module _ (s : State) (cells : List ℕ) (n : Counts) (counted : countsAnswer s cells ≡ C.Of n) where
+module _ (s : State) (cells : List ℕ) (n : Tally) (counted : countsAnswer s cells ≡ C.Of n) where
   -- it can be drawn
   pub counted-viewable : Viewable s cells (pixelCount (s .chosen))
   counted-viewable = drawn-viewable s cells (pixelCount (s .chosen)) (drawn-if (pictureAnswer s cells (pixelCount (s .chosen))) (countsOf s cells) n (counts-as-picture s cells (pixelCount (s .chosen)) refl ∙ counted))
@@ -95,21 +96,23 @@ module _ (s : State) (cells : List ℕ) (n : Counts) (counted : countsAnswer s c
       (a, omega (arith, a, b))
 
   -- the picture that is drawn into a buffer shows it
-  pub counted-shown : (out left : List ℕ) (d : Drawn) → length cells ≤ length out → d ≡ pictureAnswer s cells (length out) → left ≡ ifDrawn d (pictureLeft s cells out) out
+  pub counted-shown : (out left : List ℕ) (d : CallAnswer) → length cells ≤ length out → d ≡ pictureAnswer s cells (length out)
+      → left ≡ ifDone d (pictureLeft s cells out) out
       → rowsOf (s .chosen .width) (s .chosen .height) (map symbolOf left) ≡ rowsOf (s .chosen .width) (s .chosen .height) (characters s cells)
   unfolding pictureLeft
   counted-shown out left d h e f =
       let g : d ≡ D.Done = e ∙ counted-drawn (length out) h in
-      let k : left ≡ pictureBytes s cells ++ drop (pixelCount (s .chosen)) out = f ∙ ap (λ (x : Drawn). ifDrawn x (pictureBytes s cells ++ drop (pixelCount (s .chosen)) out) out) g in
+      let k : left ≡ pictureBytes s cells ++ drop (pixelCount (s .chosen)) out = f ∙ ap (λ (x : CallAnswer). ifDone x (pictureBytes s cells ++ drop (pixelCount (s .chosen)) out) out) g in
       rw k (rows-shown s cells (drop (pixelCount (s .chosen)) out) (counted-viewable .enough))
 
 -- WHAT EACH ANSWER PRINTS
 
-module _ (w : World) (a : RunAnswer) (r : Ran) (ring cells : List ℕ) (runs : RunsAs w a r ring cells) where
-  pub text-ended : (s : State) (steps evals tape : ℕ) (ending : Ending) → r ≡ A.Ended s steps evals tape ending → viewText s cells steps evals ending (countsAnswer s cells) ≡ ranText a
+module _ (w : World) (a : RunResult) (r : RunAnswer) (ring cells : List ℕ) (runs : RunsAs w a r ring cells) where
+  pub text-ended : (s : State) (steps evals tape : ℕ) (ending : Ending) → r ≡ A.Ended s steps evals tape ending
+      → viewText s cells steps evals ending (countsAnswer s cells) ≡ ranText a
   text-ended s steps evals tape ending e = go a runs
     where
-      go : (b : RunAnswer) → RunsAs w b r ring cells → viewText s cells steps evals ending (countsAnswer s cells) ≡ ranText b
+      go : (b : RunResult) → RunsAs w b r ring cells → viewText s cells steps evals ending (countsAnswer s cells) ≡ ranText b
       go (notRun why) h = let k : A.Refused why (w .state) ≡ A.Ended s steps evals tape ending = sym (h .0) ∙ e in let z : _≡_ {A = ℕ} 0 1 = cc in absurd (omega arith)
       go (hasRun x) h =
           let k : A.Ended (x .world .state) (x .steps) (x .evaluations) (x .tape) (x .ending) ≡ A.Ended s steps evals tape ending = sym (h .0) ∙ e in
@@ -122,23 +125,24 @@ module _ (w : World) (a : RunAnswer) (r : Ran) (ring cells : List ℕ) (runs : R
   pub text-not-run : (why : Refusal) (s : State) → r ≡ A.Refused why s → refusedText why ≡ ranText a
   text-not-run why s e = go a runs
     where
-      go : (b : RunAnswer) → RunsAs w b r ring cells → refusedText why ≡ ranText b
+      go : (b : RunResult) → RunsAs w b r ring cells → refusedText why ≡ ranText b
       go (notRun y) h = let k : A.Refused y (w .state) ≡ A.Refused why s = sym (h .0) ∙ e in let j : y ≡ why = cc in rw j
       go (hasRun x) h =
           let k : A.Ended (x .world .state) (x .steps) (x .evaluations) (x .tape) (x .ending) ≡ A.Refused why s = sym (h .0) ∙ e in
           let z : _≡_ {A = ℕ} 0 1 = cc in absurd (omega arith)
 
-module _ (o : Order) (tape : List ℕ) (a : Started) (is-a : a ≡ startedAnswer (cleared (o .chosen)) (o .ranges) (length freshRing) (length freshCells)) where
+module _ (o : Order) (tape : List ℕ) (a : SetupAnswer) (is-a : a ≡ setupAnswer (cleared (o .chosen)) (o .ranges) (length freshRing) (length freshCells)) where
   pub text-ready : (s : State) (ring cells : List ℕ) → a ≡ S.Ready s → ring ≡ ringBegun (cleared (o .chosen)) (o .ranges) freshRing freshCells
       → cells ≡ cellsBegun (cleared (o .chosen)) (o .ranges) freshRing freshCells → ranText (runOf (o .budget) (worldOf s ring cells) tape) ≡ orderText o tape
   unfolding orderText
-  text-ready s ring cells e r c = let k : startedAnswer (cleared (o .chosen)) (o .ranges) (length freshRing) (length freshCells) ≡ S.Ready s = sym is-a ∙ e in rw (k, r, c)
+  text-ready s ring cells e r c = let k : setupAnswer (cleared (o .chosen)) (o .ranges) (length freshRing) (length freshCells) ≡ S.Ready s = sym is-a ∙ e in rw (k, r, c)
 
   pub text-not-ready : (why : Refusal) → a ≡ S.Refused why → refusedText why ≡ orderText o tape
   unfolding orderText
-  text-not-ready why e = let k : startedAnswer (cleared (o .chosen)) (o .ranges) (length freshRing) (length freshCells) ≡ S.Refused why = sym is-a ∙ e in rw k
+  text-not-ready why e = let k : setupAnswer (cleared (o .chosen)) (o .ranges) (length freshRing) (length freshCells) ≡ S.Refused why = sym is-a ∙ e in rw k
 
-pub text-taken : (s tape : List ℕ) (o : Order) → takenSheet s ≡ true → o ≡ orderIn s → tape ≡ take (length s - o .tape) (drop (o .tape) s) → orderText o tape ≡ textOf s
+pub text-taken : (s tape : List ℕ) (o : Order) → takenSheet s ≡ true → o ≡ orderIn s → tape ≡ take (length s - o .tape) (drop (o .tape) s)
+    → orderText o tape ≡ textOf s
 unfolding textOf
 text-taken s tape o e f g =
     let t : tape ≡ drop (orderIn s .tape) s = g ∙ rest-all s (o .tape) ∙ ap (λ (x : Order). drop (x .tape) s) f in

@@ -13,6 +13,8 @@ use lib.ListN.{length, drop, getD, length-append, length-replicate, length-map}
 use lib.Seq.{getD-append-add}
 use borrow.Author.Tests.{le-leb, ltb-false, not-true}
 use Rattle.base.proofs.Test.{cases, and-left, and-right, by-test}
+use Rattle.base.specs.Lists.{Every}
+use Rattle.base.proofs.ListLaws.{every-also}
 use Rattle.refusal.specs.declared.Refusal.the-variants as R
 use Rattle.interval.specs.Bounds.{InFormat}
 use Rattle.image.specs.declared.Reading.{Reading}
@@ -29,38 +31,38 @@ use Rattle.queue.specs.Directions.{inUse}
 use Rattle.queue.specs.Block.{wholeLine, startingLast, remembered}
 use Rattle.queue.specs.Code.{encode, canQueue, indicesKnown}
 use Rattle.queue.specs.Queue.{queueCodes}
-use Rattle.queue.proofs.QueueLaws.{Every, can-code}
+use Rattle.queue.proofs.QueueLaws.{can-code}
 use Rattle.queue.proofs.QueueableLaws.{encode-few}
 use Rattle.queue.proofs.RoundTrip.{CanQueue, Known}
 use Rattle.queue.proofs.KeptLaws.{known-after, known-start}
 use Rattle.decide.specs.declared.Chosen.{Chosen}
 use Rattle.decide.specs.Damage.{legalSide}
 use Rattle.implicit.specs.declared.state.Ranges.{Ranges}
-use Rattle.implicit.specs.declared.state.Started.{Started}
-use Rattle.implicit.specs.declared.state.Started.the-variants as S
+use Rattle.implicit.specs.declared.state.SetupAnswer.{SetupAnswer}
+use Rattle.implicit.specs.declared.state.SetupAnswer.the-variants as S
 use Rattle.implicit.specs.declared.state.State.{State}
-use Rattle.implicit.specs.declared.state.Counts.{Counts}
-use Rattle.implicit.specs.declared.state.Counted.the-variants as C
+use Rattle.implicit.specs.declared.state.Tally.{Tally}
+use Rattle.implicit.specs.declared.state.CountsAnswer.the-variants as C
 use Rattle.implicit.specs.Record.{pixelCount, pixelCells, soundRecord}
-use Rattle.implicit.specs.Setup.{cleared, rangesLegal, firstBlocks, firstBytes, setupRefusal, startRecord, startedAnswer, ringBegun, cellsBegun}
+use Rattle.implicit.specs.Setup.{cleared, rangesLegal, firstBlocks, firstBytes, setupRefusal, startRecord, setupAnswer, ringBegun, cellsBegun}
 use Rattle.implicit.specs.Step.{World, worldOf}
 use Rattle.implicit.specs.Run.{RunEnd, hasRun, runFrom, runOf}
-use Rattle.implicit.specs.View.{cellsFine, countsOf, countsAnswer}
+use Rattle.implicit.specs.View.{cellsSound, countsOf, countsAnswer}
 use Rattle.implicit.specs.Answers.{setupNumber, setupState, countsNumber}
 use Rattle.implicit.proofs.RecordLaws.{pixel-cells-length, pixel-cell-at}
-use Rattle.implicit.proofs.SetupLawsFirst.{every-sub}
 use Rattle.implicit.proofs.SetupLawsBlocks.{RangesHeld, FirstBlock, first-blocks, first-count, first-can}
 use Rattle.theory.specs.Colours.{HasSolution, FalseRight}
 use Rattle.promises.specs.Chart.{Pixel, coversIn}
 use Rattle.promises.specs.Steps.{Asked, BegunAs, readsIn}
-use Rattle.promises.specs.Turns.{EveryAnswer}
+use Rattle.promises.specs.Judgements.{EveryAnswer}
 use Rattle.promises.specs.Mixes.{Measures, Mix, questionOf}
 use Rattle.promises.proofs.Linked.{begun-reached, steps-reached}
 use Rattle.promises.proofs.Promises.{never-damaged, run-reaches, white-means-no}
 use Rattle.sheet.specs.Layout.{numberIn, sheetSet, zeroBits, placesIn, boundsIn, rangeIn, rangesIn, orderIn, tooLarge, takenSheet}
 use Rattle.sheet.specs.Text.{runLine, countLine, rowsOf, characters, chartText, refusedText}
 use Rattle.sheet.specs.Printed.{freshRing, freshCells, ranText, startedText, orderText, textOf}
-use Rattle.sheet.proofs.RowLaws.{map-at, row-at}
+use Rattle.base.proofs.ListLaws.{map-at}
+use Rattle.sheet.proofs.RowLaws.{row-at}
 
 -- A SHEET'S RANGES ARE OF f64s
 
@@ -96,7 +98,7 @@ first-few : (p : Chosen) (r : Ranges) → RangesHeld r → rangesLegal (p .set) 
 unfolding firstBytes
 first-few p r held ok =
     let n = first-count p r held ok in
-    let f = codes-few (p .set) startingLast (firstBlocks p r) known-start (every-sub (FirstBlock p) (CanQueue (p .set)) (first-can p) (firstBlocks p r) (first-blocks p r held ok)) in
+    let f = codes-few (p .set) startingLast (firstBlocks p r) known-start (every-also (FirstBlock p) (CanQueue (p .set)) (first-can p) (firstBlocks p r) (first-blocks p r held ok)) in
     omega (arith, f, n .1)
 
 few-pixels : (s : List ℕ) → takenSheet s ≡ true → legalSide (numberIn s 0 2) && legalSide (numberIn s 2 2) ≡ true → numberIn s 0 2 * numberIn s 2 2 ≤ 4096
@@ -117,17 +119,18 @@ module _ (a : Asked) {w : World} (z : BegunAs a w) (budget : ℕ) (tape : List �
       let k = begun-reached a w z .keeps in
       rw (k .sound-record, le-leb (pixelCount (w .state .chosen)) (length (w .cells)) (k .enough))
 
-  counts-told : (e : RunEnd) → runOf budget w tape ≡ hasRun e → countsAnswer (e .world .state) (e .world .cells) ≡ C.Of (countsOf (e .world .state) (e .world .cells))
+  counts-known : (e : RunEnd) → runOf budget w tape ≡ hasRun e
+      → countsAnswer (e .world .state) (e .world .cells) ≡ C.Of (countsOf (e .world .state) (e .world .cells))
   unfolding countsAnswer
-  counts-told e h =
+  counts-known e h =
       let r = run-reaches budget w tape e h .0 in
       let s = e .world .state in
       let cells = e .world .cells in
       let enough = steps-reached (a .chosen) (begun-reached a w z) r .keeps .enough in
-      go (soundRecord (s .len) s) (leb (pixelCount (s .chosen)) (length cells)) (cellsFine s cells) (countsOf s cells)
+      go (soundRecord (s .len) s) (leb (pixelCount (s .chosen)) (length cells)) (cellsSound s cells) (countsOf s cells)
       (le-leb (pixelCount (s .chosen)) (length cells) enough) (never-damaged a z r .counts)
     where
-      go : (t u v : Bool) (n : Counts) → u ≡ true
+      go : (t u v : Bool) (n : Tally) → u ≡ true
           → (let c = cond t (cond u (cond v (C.Of n) (C.Refused R.Damaged)) (C.Refused R.Cells)) (C.Refused R.Damaged) in
           ¬ (countsNumber c ≡ 8) → c ≡ C.Of n)
       go true true true n f k = refl
@@ -142,8 +145,8 @@ abbrev pub askedIn : List ℕ → List ℕ → List ℕ → Asked
 askedIn s ring cells = record { chosen = cleared (orderIn s .chosen); ranges = orderIn s .ranges; ring = ring; cells = cells }
 
 -- what it answers
-abbrev pub answerTo : Asked → Started
-answerTo a = startedAnswer (a .chosen) (a .ranges) (length (a .ring)) (length (a .cells))
+abbrev pub answerTo : Asked → SetupAnswer
+answerTo a = setupAnswer (a .chosen) (a .ranges) (length (a .ring)) (length (a .cells))
 
 -- the record, ring and cells that it leaves if it is accepted
 abbrev pub begunBy : Asked → World
@@ -171,10 +174,10 @@ module _ (s ring cells : List ℕ) (taken : takenSheet s ≡ true) (nr : length 
   run-prints f =
       let z : BegunAs a (begunBy a) = record { accepted = ap setupNumber f; state = ap setupState f; ring = refl; cells = refl; held = ranges-held s (sheetSet s) } in
       let b = run-begins a z (orderIn s .budget) (drop (orderIn s .tape) s) in
-      rw (b, counts-told a z (orderIn s .budget) (drop (orderIn s .tape) s) _ b) (prints-chart z _ b)
+      rw (b, counts-known a z (orderIn s .budget) (drop (orderIn s .tape) s) _ b) (prints-chart z _ b)
 
   started-prints : Prints s a (startedText (orderIn s) (drop (orderIn s .tape) s) (begunBy a .ring) (begunBy a .cells) (answerTo a))
-  unfolding orderIn startedAnswer setupRefusal
+  unfolding orderIn setupAnswer setupRefusal
   started-prints =
       let p = a .chosen in
       let r = a .ranges in

@@ -6,8 +6,8 @@ use native.Mathlib.Nat.{mul-suc, suc-mul}
 use native.Mathlib.Omega.{arith}
 use lib.ListN.{length, take, drop, getD, length-append, length-map, length-drop, List·getD-append}
 use lib.Seq.{drop-drop, take-append-le, drop-append-le, length-take-le, getD-append-add, getD-take, getD-drop}
-use Rattle.sheet.specs.Writing.{written, Puts}
-use Rattle.sheet.specs.Text.{lineEnd, rowsOf, symbolOf}
+use Rattle.sheet.specs.Text.{lineEnd, rowsOf}
+use Rattle.sheet.specs.WritingComputed.{written, Puts, symbolOf}
 use Rattle.sheet.proofs.WritingLaws.{write-more}
 
 -- the characters of a part
@@ -40,7 +40,8 @@ pub record Rows (width height : ℕ) (picture out₀ : List ℕ) (at₀ y : ℕ)
   pub bytes : written out at (rowsLeft width height picture y from) ≡ written out₀ at₀ (rowsOf width height (map symbolOf picture))
   pub place : at + length (rowsLeft width height picture y from) ≡ at₀ + length (rowsOf width height (map symbolOf picture))
 
-pub rows-start : (width height : ℕ) (picture out : List ℕ) (at : ℕ) → width * height ≤ length picture → at + (width + 1) * height ≤ length out → Rows width height picture out at 0 out at 0
+pub rows-start : (width height : ℕ) (picture out : List ℕ) (at : ℕ) → width * height ≤ length picture
+    → at + (width + 1) * height ≤ length out → Rows width height picture out at 0 out at 0
 unfolding rowsLeft
 rows-start width height picture out at h k =
     let e : height - 0 ≡ height = omega arith in
@@ -77,7 +78,8 @@ module _ (width height : ℕ) (picture out₀ : List ℕ) (at₀ y : ℕ) (out :
       let d : drop width l ≡ map symbolOf (drop (from + width) picture) = drop-map symbolOf width (drop from picture) ∙ ap (map symbolOf) (drop-drop width from picture) in
       rw (one-more, e, d, take-map symbolOf width (drop from picture))
 
-  pub rows-again : (out′ : List ℕ) (at′ : ℕ) → length out′ ≡ length out → Puts out at (map symbolOf (take (from + width - from) (drop from picture)) ++ lineEnd) out′ at′
+  pub rows-again : (out′ : List ℕ) (at′ : ℕ) → length out′ ≡ length out
+      → Puts out at (map symbolOf (take (from + width - from) (drop from picture)) ++ lineEnd) out′ at′
       → Rows width height picture out₀ at₀ (y + 1) out′ at′ (from + width)
   rows-again out′ at′ same p =
       let row = map symbolOf (take (from + width - from) (drop from picture)) in
@@ -94,7 +96,8 @@ module _ (width height : ℕ) (picture out₀ : List ℕ) (at₀ y : ℕ) (out :
         place = omega (arith, p .place, sp, pl, rows .place);
       }
 
-pub rows-end : (width height : ℕ) (picture out₀ : List ℕ) (at₀ y : ℕ) (out : List ℕ) (at from : ℕ) → Rows width height picture out₀ at₀ y out at from → height ≤ y
+pub rows-end : (width height : ℕ) (picture out₀ : List ℕ) (at₀ y : ℕ) (out : List ℕ) (at from : ℕ)
+    → Rows width height picture out₀ at₀ y out at from → height ≤ y
     → Puts out₀ at₀ (rowsOf width height (map symbolOf picture)) out at × (at ≤ length out₀)
 unfolding rowsLeft rowsOf written
 rows-end width height picture out₀ at₀ y out at from rows h =
@@ -116,11 +119,6 @@ rows-front width (suc height) l m e =
     (ap (λ (r : List ℕ). take width l ++ lineEnd ++ r) (rows-front width height (drop width l) m (omega (arith, length-drop width l))))
 
 -- A CHARACTER'S PLACE
-
-pub map-at : {A : Type 0} (f : A → ℕ) (l : List A) (i : ℕ) (d : A) → i < length l → getD (map f l) i 0 ≡ f (getD l i d)
-map-at f [] i d h = absurd (omega arith)
-map-at f (c ∷ l) zero d h = refl
-map-at f (c ∷ l) (suc i) d h = map-at f l i d (omega arith)
 
 -- the character in a row and a column, each row with its line end, is the one that stands there without line ends
 pub row-at : (width height : ℕ) (l : List ℕ) (row column : ℕ) → row < height → column < width → width * height ≤ length l

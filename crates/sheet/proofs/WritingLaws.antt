@@ -8,7 +8,9 @@ use native.Mathlib.Omega.{arith}
 use lib.ListN.{length, getD, drop, set, length-append, length-map, drop-of-length-le}
 use lib.Seq.{sets, sets-eq, length-sets, drop-cons}
 use borrow.Author.Tests.{lt-ltb, le-ltb}
-use Rattle.sheet.specs.Writing.{written, Puts, digitAt, digitsBelow, placesFrom, digitCount, decimalText}
+use Rattle.base.proofs.ListLaws.{map-at}
+use Rattle.sheet.specs.Decimal.{digitAt, digitsBelow, placesFrom, digitCount, decimalText}
+use Rattle.sheet.specs.WritingComputed.{written, Puts}
 
 -- BYTE BY BYTE
 
@@ -18,24 +20,21 @@ unfolding written
 write-byte out at b rest = rw add-one
 
 -- a text's next byte stored: what is left to put is what was to put
-pub write-next : (out text : List ℕ) (at i v : ℕ) → i < length text → v ≡ getD text i 0 → written (set out (at + i) v) (at + (i + 1)) (drop (i + 1) text) ≡ written out (at + i) (drop i text)
+pub write-next : (out text : List ℕ) (at i v : ℕ) → i < length text → v ≡ getD text i 0
+    → written (set out (at + i) v) (at + (i + 1)) (drop (i + 1) text) ≡ written out (at + i) (drop i text)
 write-next out text at i v h e =
     let f : at + (i + 1) ≡ at + i + 1 = omega arith in
     let g : drop i text ≡ v ∷ drop (i + 1) text = drop-cons text i 0 h ∙ rw (add-one, e) in
     rw (f, g) (write-byte out (at + i) v (drop (i + 1) text))
 
-map-at : (f : ℕ → ℕ) (l : List ℕ) (i : ℕ) → i < length l → getD (map f l) i 0 ≡ f (getD l i 0)
-map-at f [] i h = absurd (omega arith)
-map-at f (x ∷ l) zero h = refl
-map-at f (x ∷ l) (suc i) h = map-at f l i (omega arith)
-
 -- the same where each byte is what some function makes of another
 pub write-made : (f : ℕ → ℕ) (out from : List ℕ) (at i v : ℕ) → i < length from → v ≡ f (getD from i 0)
     → written (set out (at + i) v) (at + (i + 1)) (drop (i + 1) (map f from)) ≡ written out (at + i) (drop i (map f from))
-write-made f out from at i v h e = write-next out (map f from) at i v (omega (arith, length-map from f)) (e ∙ sym (map-at f from i h))
+write-made f out from at i v h e = write-next out (map f from) at i v (omega (arith, length-map from f)) (e ∙ sym (map-at f from i 0 h))
 
 -- nothing is left
-pub write-end : (out out₀ text : List ℕ) (at i n : ℕ) → n ≡ length text → n ≤ i → written out (at + i) (drop i text) ≡ written out₀ at text → Puts out₀ at text out (at + n)
+pub write-end : (out out₀ text : List ℕ) (at i n : ℕ) → n ≡ length text → n ≤ i → written out (at + i) (drop i text) ≡ written out₀ at text
+    → Puts out₀ at text out (at + n)
 unfolding written
 write-end out out₀ text at i n k h e =
     let g : drop i text ≡ [] = drop-of-length-le text {i = i} (omega arith) in
@@ -70,7 +69,8 @@ unfolding written
 puts-length {out} {at} {text} p = ap length (p .bytes) ∙ length-sets out at text
 
 -- a text put at the start stands there, and the rest is as it was
-pub puts-front : {out text left : List ℕ} {r : ℕ} → length text ≤ length out → Puts out 0 text left r → (r ≡ length text) × (left ≡ text ++ drop (length text) out)
+pub puts-front : {out text left : List ℕ} {r : ℕ} → length text ≤ length out → Puts out 0 text left r
+    → (r ≡ length text) × (left ≡ text ++ drop (length text) out)
 unfolding written
 puts-front {out} {text} h p =
     let z : 0 + length text ≡ length text = omega arith in
@@ -81,8 +81,8 @@ puts-front {out} {text} h p =
 pub power-next : (i r : ℕ) → i < 19 → r ≡ 10 ^ i → r * 10 < 2 ^ 64
 power-next i r h e = let k : 10 ^ i ≤ 10 ^ 18 = pow-le-pow-right {n = 10} (omega arith) {i = i} {j = 18} (omega arith) in omega arith
 
-pub power-turn : (i r : ℕ) → r ≡ 10 ^ i → r * 10 ≡ 10 ^ (i + 1)
-power-turn i r e = rw (add-one, pow-suc, e)
+pub power-pass : (i r : ℕ) → r ≡ 10 ^ i → r * 10 ≡ 10 ^ (i + 1)
+power-pass i r e = rw (add-one, pow-suc, e)
 
 -- one try more
 pub places-found : (k n : ℕ) → k < 20 → n < 10 ^ k → k ≡ placesFrom (20 - k) k n
@@ -118,7 +118,8 @@ write-digit out at count i n v h e =
     let g : count - i ≡ suc k = omega arith in
     rw (f, g, ← e) (write-byte out (at + i) v (digitsBelow k n))
 
-pub write-digits-end : (out out₀ : List ℕ) (at count i n : ℕ) → count ≡ digitCount n → count ≤ i → written out (at + i) (digitsBelow (count - i) n) ≡ written out₀ at (digitsBelow count n)
+pub write-digits-end : (out out₀ : List ℕ) (at count i n : ℕ) → count ≡ digitCount n → count ≤ i
+    → written out (at + i) (digitsBelow (count - i) n) ≡ written out₀ at (digitsBelow count n)
     → Puts out₀ at (decimalText n) out (at + count)
 unfolding written digitsBelow decimalText
 write-digits-end out out₀ at count i n e h f =

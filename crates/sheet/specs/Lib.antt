@@ -1,5 +1,6 @@
 -- The definitions that the contracts cite.
 pub mod Layout
-pub mod Writing
+pub mod Decimal
 pub mod Text
 pub mod Printed
+pub mod WritingComputed

@@ -5,15 +5,15 @@ use mathlib.Core.List.{List}
 use Prim.Native.Nat.{ℕ}
 use lib.ListN.{length, replicate, drop}
 use Rattle.refusal.specs.declared.Refusal.the-variants as R
-use Rattle.implicit.specs.declared.state.Started.{Started}
-use Rattle.implicit.specs.declared.state.Started.the-variants as S
+use Rattle.implicit.specs.declared.state.SetupAnswer.{SetupAnswer}
+use Rattle.implicit.specs.declared.state.SetupAnswer.the-variants as S
 use Rattle.implicit.specs.declared.state.State.{State}
 use Rattle.implicit.specs.declared.state.Ending.{Ending}
-use Rattle.implicit.specs.declared.state.Counted.{Counted}
-use Rattle.implicit.specs.declared.state.Counted.the-variants as C
-use Rattle.implicit.specs.Setup.{cleared, startedAnswer, ringBegun, cellsBegun}
+use Rattle.implicit.specs.declared.state.CountsAnswer.{CountsAnswer}
+use Rattle.implicit.specs.declared.state.CountsAnswer.the-variants as C
+use Rattle.implicit.specs.Setup.{cleared, setupAnswer, ringBegun, cellsBegun}
 use Rattle.implicit.specs.Step.{worldOf}
-use Rattle.implicit.specs.Run.{RunAnswer, notRun, hasRun, runOf}
+use Rattle.implicit.specs.Run.{RunResult, notRun, hasRun, runOf}
 use Rattle.implicit.specs.View.{countsAnswer}
 use Rattle.sheet.specs.declared.head.Order.{Order}
 use Rattle.sheet.specs.Layout.{orderIn, takenSheet}
@@ -27,18 +27,18 @@ abbrev pub freshCells : List ℕ
 freshCells = replicate 4096 0
 
 -- from the counts: the chart's text
-abbrev pub viewText : State → List ℕ → ℕ → ℕ → Ending → Counted → List ℕ
+abbrev pub viewText : State → List ℕ → ℕ → ℕ → Ending → CountsAnswer → List ℕ
 viewText s cells steps evals ending (C.Of n) = chartText s cells steps evals ending n
 viewText s cells steps evals ending (C.Refused why) = refusedText why
 
 -- from the run: the counts of what it leaves
-abbrev pub ranText : RunAnswer → List ℕ
+abbrev pub ranText : RunResult → List ℕ
 ranText (hasRun e) =
     viewText (e .world .state) (e .world .cells) (e .steps) (e .evaluations) (e .ending) (countsAnswer (e .world .state) (e .world .cells))
 ranText (notRun why) = refusedText why
 
 -- from the setup, with the ring and the cells that it leaves
-abbrev pub startedText : Order → List ℕ → List ℕ → List ℕ → Started → List ℕ
+abbrev pub startedText : Order → List ℕ → List ℕ → List ℕ → SetupAnswer → List ℕ
 startedText o tape ring cells (S.Ready s) = ranText (runOf (o .budget) (worldOf s ring cells) tape)
 startedText o tape ring cells (S.Refused why) = refusedText why
 
@@ -49,7 +49,7 @@ orderText o tape =
     startedText o tape
     (ringBegun p (o .ranges) freshRing freshCells)
     (cellsBegun p (o .ranges) freshRing freshCells)
-    (startedAnswer p (o .ranges) (length freshRing) (length freshCells))
+    (setupAnswer p (o .ranges) (length freshRing) (length freshCells))
 
 -- THE TEXT OF A SHEET
 unfoldable pub textOf : List ℕ → List ℕ

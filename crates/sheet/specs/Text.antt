@@ -3,10 +3,8 @@
 --   size 2 1 steps 1 evals 2 done
 --   true 1 false 1 uncertain 0 givenup 0 queued 0 share 1000
 --   #.
-use mathlib.Core.Bool.{cond}
 use mathlib.Core.List.{List, [], _∷_, _++_, map}
 use Prim.Native.Nat.{ℕ, zero, suc}
-use lib.Dec.{eqb}
 use lib.ListN.{take, drop}
 use Rattle.refusal.specs.declared.Refusal.{Refusal}
 use Rattle.refusal.specs.Number.{number}
@@ -14,10 +12,10 @@ use Rattle.image.specs.Cell.{reading, characterOf}
 use Rattle.implicit.specs.declared.state.State.{State}
 use Rattle.implicit.specs.declared.state.Ending.{Ending}
 use Rattle.implicit.specs.declared.state.Ending.the-variants as E
-use Rattle.implicit.specs.declared.state.Counts.{Counts}
+use Rattle.implicit.specs.declared.state.Tally.{Tally}
 use Rattle.implicit.specs.Record.{pixelCells}
 use Rattle.implicit.specs.Answers.{endingWord, stopNumber}
-use Rattle.sheet.specs.Writing.{decimalText}
+use Rattle.sheet.specs.Decimal.{decimalText}
 
 -- a word, then a number
 abbrev pub labelled : List ℕ → ℕ → List ℕ
@@ -34,7 +32,7 @@ endingText E.Limit = 32 ∷ endingWord E.Limit
 endingText E.More = 32 ∷ endingWord E.More
 endingText (E.Stop why) = labelled (32 ∷ endingWord (E.Stop why) ++ 32 ∷ []) (stopNumber (E.Stop why))
 
--- the first line: both sides, then the steps and what they cost, then how the run ended; its words are "size ", " ", " steps ", " evals "
+-- the first line: both sides, then the steps and what they cost, then how the run ended; its words are "size ", a space, " steps ", " evals "
 unfoldable pub runLine : ℕ → ℕ → ℕ → ℕ → Ending → List ℕ
 runLine width height steps evals ending =
     labelled (115 ∷ 105 ∷ 122 ∷ 101 ∷ 32 ∷ []) width
@@ -45,14 +43,14 @@ runLine width height steps evals ending =
     ++ lineEnd
 
 -- how many pixels show each reading, behind "true ", " false ", " uncertain "
-unfoldable pub readingCounts : Counts → List ℕ
+unfoldable pub readingCounts : Tally → List ℕ
 readingCounts n =
     labelled (116 ∷ 114 ∷ 117 ∷ 101 ∷ 32 ∷ []) (n .trues)
     ++ labelled (32 ∷ 102 ∷ 97 ∷ 108 ∷ 115 ∷ 101 ∷ 32 ∷ []) (n .falses)
     ++ labelled (32 ∷ 117 ∷ 110 ∷ 99 ∷ 101 ∷ 114 ∷ 116 ∷ 97 ∷ 105 ∷ 110 ∷ 32 ∷ []) (n .uncertain)
 
 -- how many cells are given up, how many blocks wait, and which share is settled, behind " givenup ", " queued ", " share "
-unfoldable pub otherCounts : Counts → List ℕ
+unfoldable pub otherCounts : Tally → List ℕ
 otherCounts n =
     labelled (32 ∷ 103 ∷ 105 ∷ 118 ∷ 101 ∷ 110 ∷ 117 ∷ 112 ∷ 32 ∷ []) (n .givenup)
     ++ labelled (32 ∷ 113 ∷ 117 ∷ 101 ∷ 117 ∷ 101 ∷ 100 ∷ 32 ∷ []) (n .queued)
@@ -60,7 +58,7 @@ otherCounts n =
     ++ lineEnd
 
 -- the line of the counts
-abbrev pub countLine : Counts → List ℕ
+abbrev pub countLine : Tally → List ℕ
 countLine n = readingCounts n ++ otherCounts n
 
 -- characters cut into rows, each with its line end
@@ -72,12 +70,8 @@ rowsOf width (suc height) l = take width l ++ lineEnd ++ rowsOf width height (dr
 unfoldable pub characters : State → List ℕ → List ℕ
 characters s cells = map (λ c. characterOf (reading (s .taken) c)) (pixelCells (s .chosen) cells)
 
--- the character of a picture's byte: that of the reading whose byte it is
-abbrev pub symbolOf : ℕ → ℕ
-symbolOf b = cond (eqb b 0) 46 (cond (eqb b 1) 63 35)
-
 -- the whole text of a run that left this record and these cells
-abbrev pub chartText : State → List ℕ → ℕ → ℕ → Ending → Counts → List ℕ
+abbrev pub chartText : State → List ℕ → ℕ → ℕ → Ending → Tally → List ℕ
 chartText s cells steps evals ending n =
     runLine (s .chosen .width) (s .chosen .height) steps evals ending
     ++ countLine n

@@ -3,16 +3,16 @@
 ghost use mathlib.Core.Path.{_≡_};
 ghost use mathlib.Core.Bool.{true};
 ghost use Prim.Native.Nat.{_+_, _*_, _^_, _≤_, _<_};
-ghost use lib.Ieee.{binary64, ofBits};
 ghost use lib.ListN.{length};
-ghost use Rattle.decide.specs.Damage.{legalSide};
 ghost use Rattle.sheet.specs.Layout.{numberIn, rangeBytes, placesIn, boundsIn, rangeIn, rangesIn, orderIn, tooLarge, takenSheet};
 use decide::Chosen;
-use implicit::state::Ranges;
+use decide::is_legal_side;
+use implicit::Ranges;
 use interval::Interval;
-use queue::directions::Direction;
-use queue::directions::is_used;
-use queue::kept::whole_line;
+use interval::float_of;
+use queue::Direction;
+use queue::is_used;
+use queue::whole_line;
 
 // Where the ranges of n, n_theta and t stand, and the tape behind them.
 struct Places {
@@ -46,16 +46,6 @@ fn number_in(s: &[u8], at: usize, count: usize) -> u64
         v = v * 256 + wide(s[at + i]);
     }
     v
-}
-
-// The f64 of a bit pattern; any NaN's is one.
-fn float_of(bits: u64) -> f64
-    ensures { λ r. ⌜ r ≡ ofBits binary64 bits ⌝ }
-{
-    if 0x7ff0_0000_0000_0000 < bits % 0x8000_0000_0000_0000 {
-        return 0.0 / 0.0;
-    }
-    f64::from_bits(bits)
 }
 
 // Bounds as they stand, legal or not.
@@ -133,18 +123,12 @@ pub(crate) fn read_order(s: &[u8]) -> Order
     }
 }
 
-fn is_legal_side(side: u64) -> bool
-    ensures { λ r. ⌜ r ≡ legalSide side ⌝ }
-{
-    (1 <= side) & (side <= 32768)
-}
-
 // Legal sides with over 4096 pixels.
 fn is_too_large(width: u64, height: u64) -> bool
     requires { ⌜ (width < 65536) × (height < 65536) ⌝ }
     ensures { λ r. ⌜ r ≡ tooLarge width height ⌝ }
 {
-    is_legal_side(width) & is_legal_side(height) & (4096 < width * height)
+    is_legal_side(width as u32) & is_legal_side(height as u32) & (4096 < width * height)
 }
 
 // Whether the program takes a sheet.

@@ -11,18 +11,18 @@ ghost use lib.ListN.{length, drop};
 ghost use Rattle.implicit.specs.Step.{worldOf};
 ghost use Rattle.implicit.specs.Run.{runOf};
 ghost use Rattle.implicit.specs.View.{countsAnswer};
-ghost use Rattle.implicit.specs.declared.state.Counted.the-variants.{Of};
+ghost use Rattle.implicit.specs.declared.state.CountsAnswer.the-variants.{Of};
 ghost use Rattle.sheet.specs.Layout.{takenSheet};
-ghost use Rattle.sheet.specs.Writing.{Puts};
 ghost use Rattle.sheet.specs.Text.{chartText};
+ghost use Rattle.sheet.specs.WritingComputed.{Puts};
 ghost use Rattle.sheet.specs.Printed.{textOf, orderText, ranText, viewText};
 use head::Order;
-use implicit::state::Counted;
-use implicit::state::Counts;
-use implicit::state::Ending;
-use implicit::state::Ran;
-use implicit::state::Started;
-use implicit::state::State;
+use implicit::CountsAnswer;
+use implicit::Ending;
+use implicit::RunAnswer;
+use implicit::SetupAnswer;
+use implicit::State;
+use implicit::Tally;
 use refusal::Refusal;
 
 // Puts the text of a sheet at the start of a buffer that has room for the longest, and answers its length.
@@ -56,9 +56,9 @@ fn print_order(o: Order, tape: &[u8], out: &mut [u8]) -> usize
     let mut cells = [0u64; 4096];
     let chosen = o.chosen;
     let ranges = o.ranges;
-    match implicit::begin::setup(chosen, ranges, &mut ring, &mut cells) {
-        Started::Ready(s) => print_run(s, o.budget, &mut ring, &mut cells, tape, out),
-        Started::Refused(why) => write::put_refused(out, why),
+    match implicit::setup(chosen, ranges, &mut ring, &mut cells) {
+        SetupAnswer::Ready(s) => print_run(s, o.budget, &mut ring, &mut cells, tape, out),
+        SetupAnswer::Refused(why) => write::put_refused(out, why),
     }
 }
 
@@ -74,15 +74,15 @@ fn print_run(
     requires { ⌜ (length (now cells) ≡ 4096) × (length (now out) ≡ 8704) ⌝ }
     ensures { λ r. ⌜ Puts (now (out .entry)) 0 (ranText (runOf budget (worldOf s (now (ring .entry)) (now (cells .entry))) (now (tape .entry)))) (now (out .exit)) r × (r ≤ 8704) ⌝ }
 {
-    match implicit::go::run(s, ring, cells, tape, budget) {
-        Ran::Ended {
+    match implicit::run(s, ring, cells, tape, budget) {
+        RunAnswer::Ended {
             state,
             steps,
             evaluations,
             tape: _,
             ending,
         } => print_counts(state, steps, evaluations, ending, cells, out),
-        Ran::Refused { why, state: _ } => write::put_refused(out, why),
+        RunAnswer::Refused { why, state: _ } => write::put_refused(out, why),
     }
 }
 
@@ -99,8 +99,8 @@ fn print_counts(
     ensures { λ r. ⌜ Puts (now (out .entry)) 0 (viewText s (now (cells .entry)) steps evaluations ending (countsAnswer s (now (cells .entry)))) (now (out .exit)) r × (r ≤ 8704) ⌝ }
 {
     match implicit::counts(s, cells) {
-        Counted::Of(n) => print_chart(s, steps, evaluations, ending, n, cells, out),
-        Counted::Refused(why) => write::put_refused(out, why),
+        CountsAnswer::Of(n) => print_chart(s, steps, evaluations, ending, n, cells, out),
+        CountsAnswer::Refused(why) => write::put_refused(out, why),
     }
 }
 
@@ -110,7 +110,7 @@ fn print_chart(
     steps: u64,
     evaluations: u64,
     ending: Ending,
-    n: Counts,
+    n: Tally,
     cells: &[u64],
     out: &mut [u8],
 ) -> usize

@@ -4,10 +4,12 @@ ghost use mathlib.Core.Path.{_≡_};
 ghost use mathlib.Core.List.{_∷_, [], _++_, map};
 ghost use Prim.Native.Nat.{_+_, _*_, _^_, _≤_, _<_};
 ghost use lib.ListN.{length, take};
-ghost use Rattle.sheet.specs.Writing.{Puts, digitAt, digitCount, decimalText};
-ghost use Rattle.sheet.specs.Text.{labelled, lineEnd, endingText, runLine, readingCounts, otherCounts, countLine, rowsOf, refusedText, symbolOf};
-use implicit::state::Counts;
-use implicit::state::Ending;
+ghost use Rattle.sheet.specs.Decimal.{digitAt, digitCount, decimalText};
+ghost use Rattle.sheet.specs.Text.{labelled, lineEnd, endingText, runLine, readingCounts, otherCounts, countLine, rowsOf, refusedText};
+ghost use Rattle.sheet.specs.WritingComputed.{Puts, readingOf, symbolOf};
+use image::Reading;
+use implicit::Ending;
+use implicit::Tally;
 use refusal::Refusal;
 use refusal::number_of;
 
@@ -110,7 +112,7 @@ pub(crate) fn put_run(
 }
 
 // The pixels by reading.
-fn put_readings(out: &mut [u8], at: usize, n: Counts) -> usize
+fn put_readings(out: &mut [u8], at: usize, n: Tally) -> usize
     requires { ⌜ at + 96 ≤ length (now out) ⌝ }
     ensures { λ r. ⌜ Puts (now (out .entry)) at (readingCounts n) (now (out .exit)) r × (r ≤ at + 96) ⌝ }
 {
@@ -120,7 +122,7 @@ fn put_readings(out: &mut [u8], at: usize, n: Counts) -> usize
 }
 
 // The other counts, to the end of their line.
-fn put_others(out: &mut [u8], at: usize, n: Counts) -> usize
+fn put_others(out: &mut [u8], at: usize, n: Tally) -> usize
     requires { ⌜ at + 128 ≤ length (now out) ⌝ }
     ensures { λ r. ⌜ Puts (now (out .entry)) at (otherCounts n) (now (out .exit)) r × (r ≤ at + 128) ⌝ }
 {
@@ -131,7 +133,7 @@ fn put_others(out: &mut [u8], at: usize, n: Counts) -> usize
 }
 
 // The line of the counts.
-pub(crate) fn put_counts(out: &mut [u8], at: usize, n: Counts) -> usize
+pub(crate) fn put_counts(out: &mut [u8], at: usize, n: Tally) -> usize
     requires { ⌜ at + 224 ≤ length (now out) ⌝ }
     ensures { λ r. ⌜ Puts (now (out .entry)) at (countLine n) (now (out .exit)) r × (r ≤ at + 224) ⌝ }
 {
@@ -139,14 +141,25 @@ pub(crate) fn put_counts(out: &mut [u8], at: usize, n: Counts) -> usize
     put_others(out, at, n)
 }
 
-// The character of a picture's byte.
+// The reading of a picture's byte.
+fn reading_of(b: u8) -> Reading
+    ensures { λ r. ⌜ r ≡ readingOf b ⌝ }
+{
+    if b == 0 {
+        return Reading::False;
+    }
+    if b == 1 {
+        Reading::Uncertain
+    } else {
+        Reading::True
+    }
+}
+
+// Its character.
 fn symbol(b: u8) -> u8
     ensures { λ r. ⌜ r ≡ symbolOf b ⌝ }
 {
-    if b == 0 {
-        return b'.';
-    }
-    if b == 1 { b'?' } else { b'#' }
+    image::reading_character(reading_of(b))
 }
 
 // The characters of some of a picture's bytes.

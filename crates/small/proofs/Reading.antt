@@ -17,8 +17,8 @@ use Rattle.base.proofs.Test.{by-test, by-ltb, cond-yes, cond-no}
 use Rattle.base.proofs.BytesLaws.{length-little, little-round}
 use Rattle.refusal.specs.declared.Refusal.{Refusal}
 use Rattle.refusal.specs.declared.Refusal.the-variants as R
-use Rattle.small.specs.declared.SmallRead.{SmallRead}
-use Rattle.small.specs.declared.SmallRead.the-variants as S
+use Rattle.small.specs.declared.ReadAnswer.{ReadAnswer}
+use Rattle.small.specs.declared.ReadAnswer.the-variants as S
 use Rattle.small.specs.Small.{headByte, tailNumber, smallCode, longCode, readBehind, readSmall}
 use Rattle.small.proofs.Zeros.{zeros-lt, head-zeros, head-some, head-bits}
 use Rattle.small.proofs.TailLaws.{taken-lt}
@@ -38,7 +38,7 @@ abbrev pub valueOf : List ℕ → ℕ
 valueOf s = getD s 0 0 / 2 ^ (zerosOf s + 1) + ofLittleEndian (take (zerosOf s) (drop 1 s)) * 2 ^ (7 - zerosOf s)
 
 -- what holds of each answer, under the tests that lead to it, holds of the answer
-pub by-read : (P : SmallRead → Type 0) (s : List ℕ)
+pub by-read : (P : ReadAnswer → Type 0) (s : List ℕ)
     → (length s ≡ 0 → P (S.Refused R.EndsEarly))
     → ((length s ≡ 0 → ⊥) → getD s 0 0 ≡ 0 → P (S.Refused R.HeadZero))
     → ((getD s 0 0 ≡ 0 → ⊥) → length s < zerosOf s + 1 → P (S.Refused R.EndsEarly))
@@ -89,7 +89,7 @@ no-number r x n e = absurd (let z : _≡_ {A = ℕ} 0 1 = cc in omega arith)
 
 pub number-whole : (s : List ℕ) (x n : ℕ) → readSmall s ≡ S.Number x n → Whole s x n
 number-whole s x n =
-    by-read (λ (r : SmallRead). r ≡ S.Number x n → Whole s x n) s
+    by-read (λ (r : ReadAnswer). r ≡ S.Number x n → Whole s x n) s
     (λ h e. no-number _ x n e)
     (λ h g e. no-number _ x n e)
     (λ h g e. no-number _ x n e)
@@ -116,7 +116,7 @@ read-few s x n e h =
 -- eight bytes are enough for any code
 pub read-ends : (s : List ℕ) → readSmall s ≡ S.Refused R.EndsEarly → getD s 0 0 < 256 → length s < 8
 read-ends s =
-    by-read (λ (r : SmallRead). r ≡ S.Refused R.EndsEarly → getD s 0 0 < 256 → length s < 8) s
+    by-read (λ (r : ReadAnswer). r ≡ S.Refused R.EndsEarly → getD s 0 0 < 256 → length s < 8) s
     (λ h e b. omega arith)
     (λ h g e b. absurd (let z : _≡_ {A = ℕ} 0 1 = cc in omega arith))
     (λ h g e b. omega (arith, zeros-few s h b))
@@ -150,7 +150,7 @@ read-first k s h b =
         let full : length t ≡ k = length-take-le k s (omega arith) in
         let head : getD t 0 0 ≡ getD s 0 0 = getD-take k s 0 0 (omega arith) in
         let whole : t ++ drop k s ≡ s = take-append-drop k s in
-        by-read (λ (r : SmallRead). readSmall t ≡ r → r ≡ readSmall s) t
+        by-read (λ (r : ReadAnswer). readSmall t ≡ r → r ≡ readSmall s) t
         (λ g e. absurd (omega arith))
         (λ g z e. sym (read-zero s (λ y. omega arith) (sym head ∙ z)))
         (λ g z e. absurd (omega (arith, zeros-few t g (rw head b))))

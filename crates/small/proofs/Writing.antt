@@ -15,8 +15,8 @@ use Rattle.refusal.specs.declared.Refusal.{Refusal}
 use Rattle.refusal.specs.declared.Refusal.the-variants as R
 use Rattle.small.specs.declared.Tail.{Tail}
 use Rattle.small.specs.declared.Tail.the-variants as T
-use Rattle.small.specs.declared.Coded.{Coded}
-use Rattle.small.specs.declared.Coded.the-variants as C
+use Rattle.small.specs.declared.CodeAnswer.{CodeAnswer}
+use Rattle.small.specs.declared.CodeAnswer.the-variants as C
 use Rattle.small.specs.Small.{headByte, tailNumber, tailOf, codeWith, codeOf, codeBytes, smallCode, longCode}
 
 -- x lies in the range of z, and in none below it
@@ -139,7 +139,7 @@ code-stored x head tail count e = go (tailOf x) refl
           tail-lt = rw (← b, ← c) (tail-lt x z (r .zeros) (r .below));
           few = rw (← c) (r .zeros);
           bytes = ap codeBytes e;
-          long = ap (λ (k : Coded). length (codeBytes k)) e ∙ ap suc (length-little count tail) ∙ sym (add-one count);
+          long = ap (λ (k : CodeAnswer). length (codeBytes k)) e ∙ ap suc (length-little count tail) ∙ sym (add-one count);
         }
     go (T.Refused w) f = absurd (let q : _≡_ {A = ℕ} 0 1 = cc (ap (codeWith x) f) in omega arith)
 

@@ -2,37 +2,37 @@
 -- A value that a refused call does not have is 0. The bytes of a code are `codeBytes`.
 use Prim.Native.Nat.{ℕ}
 use Rattle.refusal.specs.Number.{number}
-use Rattle.small.specs.declared.Coded.{Coded}
-use Rattle.small.specs.declared.Coded.the-variants as C
-use Rattle.small.specs.declared.SmallRead.{SmallRead}
-use Rattle.small.specs.declared.SmallRead.the-variants as S
+use Rattle.small.specs.declared.CodeAnswer.{CodeAnswer}
+use Rattle.small.specs.declared.CodeAnswer.the-variants as C
+use Rattle.small.specs.declared.ReadAnswer.{ReadAnswer}
+use Rattle.small.specs.declared.ReadAnswer.the-variants as S
 
 -- WRITING: its number, the head byte, the tail, and how many bytes of it are meant
-abbrev pub codedNumber : Coded → ℕ
-codedNumber (C.Code head tail count) = 0
-codedNumber (C.Refused why) = number why
+abbrev pub codeNumber : CodeAnswer → ℕ
+codeNumber (C.Code head tail count) = 0
+codeNumber (C.Refused why) = number why
 
-abbrev pub codedHead : Coded → ℕ
-codedHead (C.Code head tail count) = head
-codedHead (C.Refused why) = 0
+abbrev pub codeHead : CodeAnswer → ℕ
+codeHead (C.Code head tail count) = head
+codeHead (C.Refused why) = 0
 
-abbrev pub codedTail : Coded → ℕ
-codedTail (C.Code head tail count) = tail
-codedTail (C.Refused why) = 0
+abbrev pub codeTail : CodeAnswer → ℕ
+codeTail (C.Code head tail count) = tail
+codeTail (C.Refused why) = 0
 
-abbrev pub codedCount : Coded → ℕ
-codedCount (C.Code head tail count) = count
-codedCount (C.Refused why) = 0
+abbrev pub codeCount : CodeAnswer → ℕ
+codeCount (C.Code head tail count) = count
+codeCount (C.Refused why) = 0
 
 -- READING: its number, the number read, and how many bytes its code takes
-abbrev pub smallReadNumber : SmallRead → ℕ
-smallReadNumber (S.Number x count) = 0
-smallReadNumber (S.Refused why) = number why
+abbrev pub readNumber : ReadAnswer → ℕ
+readNumber (S.Number x count) = 0
+readNumber (S.Refused why) = number why
 
-abbrev pub smallReadValue : SmallRead → ℕ
-smallReadValue (S.Number x count) = x
-smallReadValue (S.Refused why) = 0
+abbrev pub readValue : ReadAnswer → ℕ
+readValue (S.Number x count) = x
+readValue (S.Refused why) = 0
 
-abbrev pub smallReadCount : SmallRead → ℕ
-smallReadCount (S.Number x count) = count
-smallReadCount (S.Refused why) = 0
+abbrev pub readCount : ReadAnswer → ℕ
+readCount (S.Number x count) = count
+readCount (S.Refused why) = 0

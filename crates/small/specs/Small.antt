@@ -20,10 +20,10 @@ use Rattle.base.specs.Bytes.{littleEndian, ofLittleEndian}
 use Rattle.refusal.specs.declared.Refusal.the-variants as R
 use Rattle.small.specs.declared.Tail.{Tail}
 use Rattle.small.specs.declared.Tail.the-variants as T
-use Rattle.small.specs.declared.Coded.{Coded}
-use Rattle.small.specs.declared.Coded.the-variants as C
-use Rattle.small.specs.declared.SmallRead.{SmallRead}
-use Rattle.small.specs.declared.SmallRead.the-variants as S
+use Rattle.small.specs.declared.CodeAnswer.{CodeAnswer}
+use Rattle.small.specs.declared.CodeAnswer.the-variants as C
+use Rattle.small.specs.declared.ReadAnswer.{ReadAnswer}
+use Rattle.small.specs.declared.ReadAnswer.the-variants as S
 
 -- document 01's head byte for z tail bytes: x with a 1 below it, moved up by z, cut to a byte
 abbrev pub headByte : ℕ → ℕ → ℕ
@@ -47,16 +47,16 @@ tailOf x =
     (T.Refused R.TooLarge))))))))
 
 -- the code with z tail bytes, once z is picked
-abbrev pub codeWith : ℕ → Tail → Coded
+abbrev pub codeWith : ℕ → Tail → CodeAnswer
 codeWith x (T.Bytes z) = C.Code (headByte z x) (tailNumber z x) z
 codeWith x (T.Refused r) = C.Refused r
 
 -- what the writer answers for x
-unfoldable pub codeOf : ℕ → Coded
+unfoldable pub codeOf : ℕ → CodeAnswer
 codeOf x = codeWith x (tailOf x)
 
 -- the bytes of a code: the head, then the tail from its lowest byte; none where there is no code
-abbrev pub codeBytes : Coded → List ℕ
+abbrev pub codeBytes : CodeAnswer → List ℕ
 codeBytes (C.Code head tail count) = head ∷ littleEndian count tail
 codeBytes (C.Refused r) = []
 
@@ -69,12 +69,12 @@ unfoldable pub longCode : ℕ → ℕ → List ℕ
 longCode z x = codeBytes (codeWith x (T.Bytes z))
 
 -- what this head says with the bytes behind it: 10 if there are fewer than z, else the number that z of them and the head hold
-unfoldable pub readBehind : ℕ → ℕ → List ℕ → SmallRead
+unfoldable pub readBehind : ℕ → ℕ → List ℕ → ReadAnswer
 readBehind head z rest =
     cond (ltb (length rest) z) (S.Refused R.EndsEarly)
     (S.Number (head / 2 ^ (z + 1) + ofLittleEndian (take z rest) * 2 ^ (7 - z)) (z + 1))
 
 -- what the reader answers: 10 without a head, 11 for a head of 0 whatever follows, else by z, the zeros at the head's low end
-unfoldable pub readSmall : List ℕ → SmallRead
+unfoldable pub readSmall : List ℕ → ReadAnswer
 readSmall [] = S.Refused R.EndsEarly
 readSmall (head ∷ rest) = cond (eqb head 0) (S.Refused R.HeadZero) (readBehind head (trailingZeros 8 head) rest)

@@ -8,7 +8,7 @@ ghost use Rattle.small.specs.Small.{tailOf, codeOf, readSmall};
 use refusal::Refusal;
 
 // A number's code, or why it has none.
-pub enum Coded {
+pub enum CodeAnswer {
     // The head byte, then the `count` low bytes of `tail`, lowest first.
     Code { head: u8, tail: u64, count: usize },
     Refused(Refusal),
@@ -21,23 +21,23 @@ enum Tail {
 }
 
 // What stands at the front of some bytes.
-pub enum SmallRead {
+pub enum ReadAnswer {
     // A number, and how many bytes its code takes.
     Number { x: u64, count: usize },
     Refused(Refusal),
 }
 
 // The shortest code of a number, handed back rather than stored: there is no refusal for a short buffer.
-pub fn write_small(x: u64) -> Coded
+pub fn write_small(x: u64) -> CodeAnswer
     ensures { λ r. ⌜ r ≡ codeOf x ⌝ }
 {
     match tail_bytes(x) {
-        Tail::Bytes(zeros) => Coded::Code {
+        Tail::Bytes(zeros) => CodeAnswer::Code {
             head: (((2 * x + 1) << zeros) % 256) as u8,
             tail: x >> (7 - zeros),
             count: zeros as usize,
         },
-        Tail::Refused(why) => Coded::Refused(why),
+        Tail::Refused(why) => CodeAnswer::Refused(why),
     }
 }
 
@@ -59,23 +59,23 @@ fn tail_bytes(x: u64) -> Tail
 }
 
 // The number whose code stands at the front of `s`; a code may be longer than its number needs.
-pub fn read_small(s: &[u8]) -> SmallRead
+pub fn read_small(s: &[u8]) -> ReadAnswer
     ensures { λ r. ⌜ r ≡ readSmall (now (s .entry)) ⌝ }
 {
     if s.len() == 0 {
-        return SmallRead::Refused(Refusal::EndsEarly);
+        return ReadAnswer::Refused(Refusal::EndsEarly);
     }
     let head = s[0];
     if head == 0 {
-        return SmallRead::Refused(Refusal::HeadZero);
+        return ReadAnswer::Refused(Refusal::HeadZero);
     }
     let zeros = u8::trailing_zeros(head);
     let end = zeros as usize + 1;
     if s.len() < end {
-        return SmallRead::Refused(Refusal::EndsEarly);
+        return ReadAnswer::Refused(Refusal::EndsEarly);
     }
     let tail = read_tail(&s[1..end]);
-    SmallRead::Number {
+    ReadAnswer::Number {
         x: (wide(head) >> (zeros + 1)) + (tail << (7 - zeros)),
         count: end,
     }

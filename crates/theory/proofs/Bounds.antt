@@ -11,12 +11,13 @@ use lib.Dec.{T}
 use lib.Pow.{pow-pos, pow-add}
 use Rattle.base.proofs.Test.{both-of}
 use Rattle.base.proofs.AxisLaws.{places-over, covers-start}
-use Rattle.theory.specs.Lists.{Every}
 use Rattle.theory.specs.Runs.{Snapshot, queuedBy, FinishedSteps, no-step, one-more, EveryStep}
 use Rattle.theory.specs.Demand3.{CoversAtMostOne}
-use Rattle.theory.specs.Levels.{Place, OneBlock, QueuesChildren, QueuesAbove, placesAlong, placesAbove, stripPlacesAbove, pixelFigure, stripPixelFigure}
+use Rattle.theory.specs.Levels.{BlockPlace, OneBlock, QueuesChildren, QueuesAbove, placesAlong, placesAbove, stripPlacesAbove, pixelFigure}
+use Rattle.theory.specs.Levels.{stripPixelFigure}
 use Rattle.theory.specs.Shapes.{PixelIn, coversAlong, coversPixel, coversByPlace, quarters, halvesInX}
-use Rattle.theory.proofs.ListLaws.{every-append, every-mono, every-of-map}
+use Rattle.base.specs.Lists.{Every}
+use Rattle.base.proofs.ListLaws.{every-append, every-also, every-of-map}
 use Rattle.theory.proofs.Potential.{sunk}
 use Rattle.theory.proofs.Sums.{sum-cong}
 use Rattle.theory.proofs.ChildPlaces.{quarters-lower, halves-lower}
@@ -42,7 +43,7 @@ same-pixel {w} {h} p q e f = column (q .x) e (q .x-in) ∙ row (q .y) f (q .y-in
         (λ b. ap (λ (k : p .y < h). pixelAt (q .x) (p .y) (q .x-in) k) (le-prop (p .y-in) b))
 
 -- from the pixel's level down a block covers one pixel
-pub low-covers-one : {Block : Type 0} (w h px : ℕ) (placeOf : Block → Place) (b : Block) → placeOf b .level ≤ px
+pub low-covers-one : {Block : Type 0} (w h px : ℕ) (placeOf : Block → BlockPlace) (b : Block) → placeOf b .level ≤ px
     → CoversAtMostOne (coversByPlace w h px placeOf) b
 unfolding CoversAtMostOne coversPixel
 low-covers-one w h px placeOf b l p q a c =
@@ -53,13 +54,12 @@ low-covers-one w h px placeOf b l p q a c =
     one : (i p q : ℕ) → T (coversAlong px (placeOf b .level) i p) → T (coversAlong px (placeOf b .level) i q) → p ≡ q
     one i p q a c = covers-start px (placeOf b .level) i p l a ∙ sym (covers-start px (placeOf b .level) i q l c)
 
-pub none-left : {Block : Type 0} (placeOf : Block → Place) (floor : ℕ) (q : List Block) → Every (λ b. floor < placeOf b .level) q
+pub none-left : {Block : Type 0} (placeOf : Block → BlockPlace) (floor : ℕ) (q : List Block) → Every (λ b. floor < placeOf b .level) q
     → Every (λ b. placeOf b .level ≤ floor) q → q ≡ []
-unfolding Every
 none-left placeOf floor [] a b = refl
 none-left placeOf floor (c ∷ q) a b = absurd (omega (arith, a .0, b .0))
 
-module _ {Block Pixel : Type 0} (covers : Block → Pixel → Bool) (spare : Bool) (placeOf : Block → Place) where
+module _ {Block Pixel : Type 0} (covers : Block → Pixel → Bool) (spare : Bool) (placeOf : Block → BlockPlace) where
   -- what is queued stays above the floor
   above-floor : (floor : ℕ) {n : ℕ} {s s′ : Snapshot Block Pixel} (r : FinishedSteps covers spare n s s′)
       → EveryStep covers spare (QueuesAbove covers spare placeOf floor) r
@@ -71,14 +71,14 @@ module _ {Block Pixel : Type 0} (covers : Block → Pixel → Bool) (spare : Boo
       (tail (st .front) (st .rest) (rw st.at-front at (above-floor floor r (f .0) a))) (f .1))
     where
       tail : (b : Block) (q : List Block) → Every (λ b. floor < placeOf b .level) (b ∷ q) → Every (λ b. floor < placeOf b .level) q
-      tail b q h = unfold Every in h .1
+      tail b q h = h .1
 
   pub emptied : {px w h k : ℕ} {n : ℕ} {s₀ s : Snapshot Block Pixel} → OneBlock placeOf px w h k s₀ → (r : FinishedSteps covers spare n s₀ s)
       → (floor : ℕ) → floor < px + k → EveryStep covers spare (QueuesAbove covers spare placeOf floor) r
       → Every (λ b. placeOf b .level ≤ floor) (s .queue) → s .queue ≡ []
   emptied {s = s} z r floor l f a =
       none-left placeOf floor (s .queue)
-      (above-floor floor r f (rw (z .one-block) (unfold Every in (rw (ap (λ (b : Place). b .level) (z .at-root)) l, tt)))) a
+      (above-floor floor r f (rw (z .one-block) (rw (ap (λ (b : BlockPlace). b .level) (z .at-root)) l, tt))) a
 
   module _ (px w h k : ℕ) where
     pub square-bound : {n : ℕ} {s₀ s : Snapshot Block Pixel} → OneBlock placeOf px w h k s₀ → (r : FinishedSteps covers spare n s₀ s)
@@ -114,20 +114,20 @@ pub strip-sum-in-pixels : (px w k : ℕ) → stripPlacesAbove (w * 2 ^ px) px k 
 unfolding stripPlacesAbove stripPixelFigure
 strip-sum-in-pixels px w k = sum-cong k (λ i. placesAlong (w * 2 ^ px) (px + suc i)) (λ i. placesAlong w (suc i)) (λ i l. places-over w px (suc i))
 
-module _ {Block : Type 0} (w h px k : ℕ) (spare : Bool) (placeOf : Block → Place) where
+module _ {Block : Type 0} (w h px k : ℕ) (spare : Bool) (placeOf : Block → BlockPlace) where
   pub pixel-square-bound : {n : ℕ} {s₀ s : Snapshot Block (PixelIn w h)} → OneBlock placeOf px w h k s₀
       → (r : FinishedSteps (coversByPlace w h px placeOf) spare n s₀ s)
       → EveryStep (coversByPlace w h px placeOf) spare (QueuesChildren (coversByPlace w h px placeOf) spare placeOf (quarters px w h)) r
       → pixelFigure w h k ≤ n → Every (CoversAtMostOne (coversByPlace w h px placeOf)) (s .queue)
   pixel-square-bound {s = s} z r c l =
-      every-mono (λ b. placeOf b .level ≤ px) (CoversAtMostOne (coversByPlace w h px placeOf)) (s .queue) (low-covers-one w h px placeOf)
+      every-also (λ b. placeOf b .level ≤ px) (CoversAtMostOne (coversByPlace w h px placeOf)) (low-covers-one w h px placeOf) (s .queue)
       (square-bound (coversByPlace w h px placeOf) spare placeOf px w h k z r c px k refl (rw (sum-in-pixels px w h k) l))
 
-module _ {Block : Type 0} (w px k : ℕ) (spare : Bool) (placeOf : Block → Place) where
+module _ {Block : Type 0} (w px k : ℕ) (spare : Bool) (placeOf : Block → BlockPlace) where
   pub pixel-strip-bound : {n : ℕ} {s₀ s : Snapshot Block (PixelIn w 1)} → OneBlock placeOf px w 1 k s₀
       → (r : FinishedSteps (coversByPlace w 1 px placeOf) spare n s₀ s)
       → EveryStep (coversByPlace w 1 px placeOf) spare (QueuesChildren (coversByPlace w 1 px placeOf) spare placeOf (halvesInX px w)) r
       → stripPixelFigure w k ≤ n → Every (CoversAtMostOne (coversByPlace w 1 px placeOf)) (s .queue)
   pixel-strip-bound {s = s} z r c l =
-      every-mono (λ b. placeOf b .level ≤ px) (CoversAtMostOne (coversByPlace w 1 px placeOf)) (s .queue) (low-covers-one w 1 px placeOf)
+      every-also (λ b. placeOf b .level ≤ px) (CoversAtMostOne (coversByPlace w 1 px placeOf)) (low-covers-one w 1 px placeOf) (s .queue)
       (strip-bound (coversByPlace w 1 px placeOf) spare placeOf px w k z r c px k refl (rw (strip-sum-in-pixels px w k) l))

@@ -8,9 +8,11 @@ use lib.Dec.{T}
 use lib.IntN.{ℤ, sucℤ}
 use lib.Signed.{_≤ℤ_, _<ℤ_, <ℤ-irrefl}
 use Rattle.base.proofs.Test.{≡→T, by-test, both-of}
-use Rattle.theory.specs.Lists.{Some}
-use Rattle.theory.specs.Cuts.{End, minusInf, finite, plusInf, Span, span, pointSpan, firstPieces, laterPieces, FromEnd, UpToEnd, InSpan, OverEnd, UnderEnd, Owes, isStep, hasWidth1, hasWidth2, withoutWidth1, nextEnd, middleIfWidth2, sameEnd, unlikeBefore, noRepeats, firstIntegers, laterIntegers}
-use Rattle.theory.proofs.ListLaws.{some-left, some-right, some-mono, some-map}
+use Rattle.theory.specs.Cuts.{End, minusInf, finite, plusInf, Span, span, pointSpan, firstPieces, laterPieces, FromEnd, UpToEnd, InSpan}
+use Rattle.theory.specs.Cuts.{OverEnd, UnderEnd, Owes, isStep, hasWidth1, hasWidth2, withoutWidth1, nextEnd, middleIfWidth2, sameEnd}
+use Rattle.theory.specs.Cuts.{unlikeBefore, noRepeats, firstIntegers, laterIntegers}
+use Rattle.base.specs.Lists.{Some}
+use Rattle.base.proofs.ListLaws.{some-left, some-right, some-mono, some-map}
 use Rattle.theory.proofs.IntegerLaws.{compare, equal-or-less, less-trans, less-next, none-between, same-integer}
 
 -- ---- reals

@@ -9,13 +9,17 @@ use native.Mathlib.Omega.{arith}
 use lib.Dec.{T, lit<}
 use lib.IntN.{ℤ, pos, negsuc, _*ℤ_}
 use lib.Signed.{_≤ℤ_, leZ-yes, <ℤ-irrefl}
-use Rattle.theory.specs.Lists.{Every, Some}
 use Rattle.theory.specs.Cells.{named, standingReads}
 use Rattle.theory.specs.Runs.{Snapshot, queuedBy, AcceptedSetup, AllNarrower, cellAfter, FinishedStep, FinishedSteps, no-step, one-more, EveryStep}
 use Rattle.theory.specs.Demand3.{pixelReads, AllWhole, GivesUpAlike, WholePicture}
-use Rattle.theory.specs.Colours.{Question, HasSolution, Holds, NoneIn, HoldsAll, saidFalse, denied, Turn, turn, childOf, inTurn, afterwards, Cutting, Follows, NotAllTrue, SkipRule, LosesNothing, Judged, EveryTurn, FalseRight}
-use Rattle.theory.specs.Cuts.{End, minusInf, finite, plusInf, Span, span, pointSpan, firstPieces, laterPieces, FromEnd, UpToEnd, InSpan, OverEnd, UnderEnd, Owes, isStep, hasWidth1, hasWidth2, withoutWidth1, nextEnd, middleIfWidth2, sameEnd, unlikeBefore, noRepeats, firstIntegers, laterIntegers}
-use Rattle.theory.proofs.ListLaws.{some-mono}
+use Rattle.theory.specs.Colours.{Question, HasSolution, Holds, NoneIn, HoldsAll, saidFalse, denied, Judgement, judgement, judgedChild}
+use Rattle.theory.specs.Colours.{marksInOrder, afterwards, Cutting, Follows, NotAllTrue, SkipRule, LosesNothing, StepByVerdicts, EveryJudgement}
+use Rattle.theory.specs.Colours.{FalseRight}
+use Rattle.theory.specs.Cuts.{End, minusInf, finite, plusInf, Span, span, pointSpan, firstPieces, laterPieces, FromEnd, UpToEnd, InSpan}
+use Rattle.theory.specs.Cuts.{OverEnd, UnderEnd, Owes, isStep, hasWidth1, hasWidth2, withoutWidth1, nextEnd, middleIfWidth2, sameEnd}
+use Rattle.theory.specs.Cuts.{unlikeBefore, noRepeats, firstIntegers, laterIntegers}
+use Rattle.base.specs.Lists.{Some}
+use Rattle.base.proofs.ListLaws.{some-mono}
 use Rattle.theory.proofs.IntegerLaws.{less-trans}
 use Rattle.theory.proofs.ExampleSteps.{not-true}
 use Rattle.theory.proofs.Theorems as Promise
@@ -32,7 +36,8 @@ worked : (laterIntegers always (pos 2) (from-to 0 3) ≡ from-to 1 1 ∷ from-to
     × (firstIntegers (from-to 5 5) ≡ from-to 5 5 ∷ [])
     × (firstPieces (from-to 5 5) ≡ from-to 5 5 ∷ from-to 5 5 ∷ from-to 5 5 ∷ [])
     × (laterIntegers always (pos 5) (from-to 5 5) ≡ from-to 5 5 ∷ from-to 5 5 ∷ from-to 5 5 ∷ [])
-unfolding firstIntegers laterIntegers firstPieces laterPieces pointSpan isStep nextEnd hasWidth1 hasWidth2 withoutWidth1 middleIfWidth2 sameEnd unlikeBefore noRepeats
+unfolding firstIntegers laterIntegers firstPieces laterPieces pointSpan isStep nextEnd hasWidth1 hasWidth2 withoutWidth1 middleIfWidth2
+    sameEnd unlikeBefore noRepeats
 worked = (refl, refl, refl, refl, refl)
 
 -- why [a,b] does not owe its ends: [0,1] cut at 1 gives [1,1] twice, and nothing would hold 0
@@ -110,7 +115,6 @@ abbrev s₃ : Snapshot (Span ℤ) Pixel
 s₃ = snapshot 3 []
 
 accepted : AcceptedSetup covers s₀
-unfolding Every
 accepted = record { none-taken = refl; some-block = lit< tt; cover-all = (λ p. tt, (λ p. tt, (λ p. tt, tt))); name-last = λ p. refl }
 
 -- setup's blocks are the pieces of the first cut
@@ -118,8 +122,8 @@ holds-all : HoldsAll covers question s₀
 unfolding HoldsAll Holds firstIntegers firstPieces pointSpan isStep hasWidth1 withoutWidth1 sameEnd unlikeBefore noRepeats
 holds-all m p g a = some-mono (λ u. Owes u m) (λ u. Owes u m × T true) (s₀ .queue) (λ u o. (o, tt)) (Promise.first-integer-loses-nothing (from-to 0 3) m g)
 
-abbrev no : ℕ → Turn (Span ℤ)
-no a = turn (from-to a a) saidFalse denied
+abbrev no : ℕ → Judgement (Span ℤ)
+no a = judgement (from-to a a) saidFalse denied
 
 -- a step in which every child is said to be false changes nothing but the count
 unfoldable step : (n : ℕ) (b : Span ℤ) (q : List (Span ℤ)) → FinishedStep covers false (snapshot n (b ∷ q)) (snapshot (suc n) q)
@@ -130,15 +134,16 @@ unfoldable run : FinishedSteps covers false 3 s₀ s₃
 run = one-more (one-more (one-more no-step (step 0 (from-to 0 0) (from-to 0 3 ∷ from-to 3 3 ∷ []))) (step 1 (from-to 0 3) (from-to 3 3 ∷ [])))
     (step 2 (from-to 3 3) [])
 
-unfoldable judged : EveryStep covers false (Judged covers cutting false) run
-unfolding EveryStep run step Every Follows SkipRule NotAllTrue childOf inTurn afterwards InSpan FromEnd UpToEnd laterIntegers laterPieces isStep nextEnd hasWidth1 hasWidth2 withoutWidth1 middleIfWidth2
+unfoldable judged : EveryStep covers false (StepByVerdicts covers cutting false) run
+unfolding EveryStep run step Follows SkipRule NotAllTrue judgedChild marksInOrder afterwards InSpan FromEnd UpToEnd laterIntegers
+    laterPieces isStep nextEnd hasWidth1 hasWidth2 withoutWidth1 middleIfWidth2
 judged = (
   (
     (
       tt,
       record {
         checked = (leZ-yes tt, leZ-yes tt);
-        turns = no 0 ∷ no 0 ∷ no 0 ∷ [];
+        judgements = no 0 ∷ no 0 ∷ no 0 ∷ [];
         each-child = refl;
         by-verdict = (refl, (refl, (refl, tt)));
         skip-rule = ((tt, tt, not-true 2), ((tt, tt, not-true 2), ((tt, tt, not-true 2), tt)));
@@ -147,7 +152,7 @@ judged = (
     ),
     record {
       checked = (leZ-yes tt, leZ-yes tt);
-      turns = no 1 ∷ no 2 ∷ [];
+      judgements = no 1 ∷ no 2 ∷ [];
       each-child = refl;
       by-verdict = (refl, (refl, tt));
       skip-rule = ((tt, tt, not-true 2), ((tt, tt, not-true 2), tt));
@@ -156,7 +161,7 @@ judged = (
   ),
   record {
     checked = (leZ-yes tt, leZ-yes tt);
-    turns = no 3 ∷ no 3 ∷ no 3 ∷ [];
+    judgements = no 3 ∷ no 3 ∷ no 3 ∷ [];
     each-child = refl;
     by-verdict = (refl, (refl, (refl, tt)));
     skip-rule = ((tt, tt, not-true 2), ((tt, tt, not-true 2), ((tt, tt, not-true 2), tt)));
@@ -177,8 +182,8 @@ no-right a n l e m p g t h s =
     let k : a * a ≡ 2 = cc in
     n k
 
-all-right : EveryTurn covers cutting false (FalseRight covers question) run judged
-unfolding EveryTurn run judged Every
+all-right : EveryJudgement covers cutting false (FalseRight covers question) run judged
+unfolding EveryJudgement run judged
 all-right = (((tt, (n0, (n0, (n0, tt)))), (no-right 1 (λ e. omega arith), (no-right 2 (λ e. omega arith), tt))), (n3, (n3, (n3, tt))))
   where
     n0 : FalseRight covers question (no 0)

@@ -8,16 +8,20 @@ use native.Mathlib.Nat.{mul-le-mul-right}
 use native.Mathlib.Omega.{arith}
 use lib.Dec.{T, lit<, lit≤}
 use lib.ListN.{drop}
-use Rattle.theory.specs.Lists.{Every, Some}
+use Rattle.base.specs.Lists.{Every, Some}
 use Rattle.theory.specs.Cells.{givenUp, readsTrue, readsFalse, readsUncertain, standingReads}
 use Rattle.theory.specs.Runs.{queuedBy, FinishedStep, FinishedSteps, no-step, one-more, EveryStep, queuedIn}
 use Rattle.theory.specs.Demand3.{pixelReads, anyGivesUp, NoneCovers, CoversAtMostOne, WasGivenUp, LooksBeforeGivingUp, GivesUpOnePixel, KeepsTrue}
-use Rattle.theory.specs.Levels.{Place, placeAt, OneBlock, QueuesChildren, QueuesAbove, NeverRise, OnTwoLevels, sumTo, placesAlong, placesAbove, pixelFigure}
+use Rattle.theory.specs.Levels.{BlockPlace, placeAt, OneBlock, QueuesChildren, QueuesAbove, NeverRise, OnTwoLevels, sumTo, placesAlong}
+use Rattle.theory.specs.Levels.{placesAbove, pixelFigure}
 use Rattle.theory.specs.Shapes.{beginsIn, coversAlong, coversPixel, quarters}
-use Rattle.theory.specs.Colours.{Question, HasSolution, Holds, NoneIn, OneInEach, HoldsAll, Said, saidFalse, saidTrue, saidOpen, Fate, skipped, denied, marked, queuedAs, stuck, turn, inTurn, afterwards, LosesNothing, Judged, EveryTurn, FalseRight, MarkRight}
+use Rattle.theory.specs.Colours.{Question, HasSolution, Holds, NoneIn, OneInEach, HoldsAll, Said, saidFalse, saidTrue, saidUndecided, ChildEnd}
+use Rattle.theory.specs.Colours.{skipped, denied, marked, waitsAs, stuck, judgement, marksInOrder, afterwards, LosesNothing, StepByVerdicts}
+use Rattle.theory.specs.Colours.{EveryJudgement, FalseRight, MarkRight}
 use Rattle.theory.specs.Positions.{PlaceHolds, LiesBetween, Fraction, AtMost, exactEdge, LiesExactly, InPixelAlong}
-use Rattle.theory.proofs.ExamplePicture.{Pixel, pixel₀, pixel₁, pixel₂, each-pixel, covers, State, cutting, inside, same-place, step, judge, waits, s₀, s₃, s₆, played₁, played₂, played₃, played₄, played₅, played₆, run₃, run, judged, accepted}
-use Rattle.theory.proofs.ExampleSteps.{open-not-false, true-not-false, not-looked-at, open-unmarked, false-unmarked}
+use Rattle.theory.proofs.ExamplePicture.{Pixel, pixel₀, pixel₁, pixel₂, each-pixel, covers, State, cutting, inside, same-place, step, judge}
+use Rattle.theory.proofs.ExamplePicture.{waits, s₀, s₃, s₆, played₁, played₂, played₃, played₄, played₅, played₆, run₃, run, judged, accepted}
+use Rattle.theory.proofs.ExampleSteps.{undecided-not-false, true-not-false, not-looked-at, undecided-unmarked, false-unmarked}
 use Rattle.theory.proofs.Theorems as Promise
 
 -- ---- demand 3
@@ -37,20 +41,20 @@ unfoldable rest : FinishedSteps covers false 3 s₃ s₆
 rest = one-more (one-more (one-more no-step (step played₄)) (step played₅)) (step played₆)
 
 last-leaves : s₆ .queue ≡ drop 3 (s₃ .queue) ++ queuedIn covers false rest
-last-leaves = Promise.leaves covers false 2 rest (lit< tt)
+last-leaves = Promise.leaves-queue covers false 2 rest (lit< tt)
 
 -- True stays True over the step that gives up, in the old mode
 on-one-pixel : EveryStep covers false (GivesUpOnePixel covers false) rest
-unfolding rest EveryStep GivesUpOnePixel played₄ played₅ played₆ inTurn afterwards anyGivesUp
+unfolding rest EveryStep GivesUpOnePixel played₄ played₅ played₆ marksInOrder afterwards anyGivesUp
 on-one-pixel = (((tt, (λ g. absurd g)), (λ g. Promise.low-covers-at-most-one 3 1 1 (λ b. b) (placeAt 1 0 1) (lit≤ tt))), (λ g. absurd g))
 
-judged-rest : EveryStep covers false (Judged covers cutting false) rest
+judged-rest : EveryStep covers false (StepByVerdicts covers cutting false) rest
 unfolding rest EveryStep
 judged-rest = (((tt, judge played₄), judge played₅), judge played₆)
 
 looked : EveryStep covers false (LooksBeforeGivingUp covers false) rest
 looked =
-    Promise.each-step covers false (Judged covers cutting false) (LooksBeforeGivingUp covers false)
+    Promise.each-step covers false (StepByVerdicts covers cutting false) (LooksBeforeGivingUp covers false)
     (λ s s′ st j. Promise.looks-by-skip-rule covers cutting false s s′ st (inside (st .front)) j) rest judged-rest
 
 keeps-true : KeepsTrue covers false rest
@@ -65,12 +69,13 @@ only-from-uncertain = Promise.reading-order covers false accepted run₃ rest ke
 begun : OneBlock (λ b. b) 1 3 1 2 s₀
 begun = record { some-width = lit< tt; some-height = lit< tt; wide = lit≤ tt; high = lit≤ tt; root = placeAt 0 0 3; at-root = refl; one-block = refl }
 
-queues-quarters : (s s′ : State) (st : FinishedStep covers false s s′) → Judged covers cutting false s s′ st
+queues-quarters : (s s′ : State) (st : FinishedStep covers false s s′) → StepByVerdicts covers cutting false s s′ st
     → QueuesChildren covers false (λ b. b) (quarters 1 3 1) s s′ st
-queues-quarters s s′ st j = Promise.queues-by-turns covers cutting false (λ b. b) (quarters 1 3 1) (λ c d e. e) s s′ st (map-id (quarters 1 3 1 (st .front))) j
+queues-quarters s s′ st j =
+    Promise.queues-by-judgements covers cutting false (λ b. b) (quarters 1 3 1) (λ c d e. e) s s′ st (map-id (quarters 1 3 1 (st .front))) j
 
 queues-children : EveryStep covers false (QueuesChildren covers false (λ b. b) (quarters 1 3 1)) run
-queues-children = Promise.each-step covers false (Judged covers cutting false)
+queues-children = Promise.each-step covers false (StepByVerdicts covers cutting false)
     (QueuesChildren covers false (λ b. b) (quarters 1 3 1)) queues-quarters run judged
 
 queues-children₃ : EveryStep covers false (QueuesChildren covers false (λ b. b) (quarters 1 3 1)) run₃
@@ -85,7 +90,7 @@ one-pixel-each : Every (CoversAtMostOne covers) (s₃ .queue)
 one-pixel-each = Promise.pixel-bound 3 1 1 2 false (λ b. b) begun run₃ queues-children₃ (unfold pixelFigure sumTo placesAlong in lit≤ tt)
 
 queues-above : EveryStep covers false (QueuesAbove covers false (λ b. b) 0) run
-unfolding run run₃ EveryStep QueuesAbove played₁ played₂ played₃ played₄ played₅ played₆ inTurn afterwards queuedBy Every
+unfolding run run₃ EveryStep QueuesAbove played₁ played₂ played₃ played₄ played₅ played₆ marksInOrder afterwards queuedBy
 queues-above = ((((((tt, (lit< tt, (lit< tt, tt))), (lit< tt, (lit< tt, tt))), (lit< tt, tt)), tt), tt), tt)
 
 -- six reach the sum over all levels above the floor
@@ -99,7 +104,7 @@ record Point : Type 0 where
   horizontal : Fraction
   vertical : Fraction
 
-abbrev question : Question Place Pixel
+abbrev question : Question BlockPlace Pixel
 question =
     record {
       Mix = Point;
@@ -135,18 +140,18 @@ right-of-1 i k l m p g a h s =
     let r : 3 * m .horizontal .den ≤ i * m .horizontal .den = mul-le-mul-right (m .horizontal .den) l in
     omega arith
 
-right-false : (i k : ℕ) (f : Fate Place) → 2 < i → FalseRight covers question (turn (placeAt i k 0) saidFalse f)
+right-false : (i k : ℕ) (f : ChildEnd BlockPlace) → 2 < i → FalseRight covers question (judgement (placeAt i k 0) saidFalse f)
 unfolding FalseRight
 right-false i k f h l e = right-of-1 i k h
 
-waits-right : (c : Place) → FalseRight covers question (waits c)
-waits-right c = open-not-false covers question c (queuedAs c)
+waits-right : (c : BlockPlace) → FalseRight covers question (waits c)
+waits-right c = undecided-not-false covers question c (waitsAs c)
 
-stuck-right : (c : Place) → FalseRight covers question (turn c saidOpen stuck)
-stuck-right c = open-not-false covers question c stuck
+stuck-right : (c : BlockPlace) → FalseRight covers question (judgement c saidUndecided stuck)
+stuck-right c = undecided-not-false covers question c stuck
 
-all-false-right : EveryTurn covers cutting false (FalseRight covers question) run judged
-unfolding EveryTurn run run₃ judged played₁ played₂ played₃ played₄ played₅ played₆ Every
+all-false-right : EveryJudgement covers cutting false (FalseRight covers question) run judged
+unfolding EveryJudgement run run₃ judged played₁ played₂ played₃ played₄ played₅ played₆
 all-false-right = (
   (
     (
@@ -159,7 +164,7 @@ all-false-right = (
       ),
       (
         true-not-false covers question (placeAt 0 0 0) marked,
-        (unseen (placeAt 1 0 0) saidFalse, (unseen (placeAt 0 1 0) saidFalse, (unseen (placeAt 1 1 0) saidOpen, tt))),
+        (unseen (placeAt 1 0 0) saidFalse, (unseen (placeAt 0 1 0) saidFalse, (unseen (placeAt 1 1 0) saidUndecided, tt))),
       ),
     ),
     (stuck-right (placeAt 2 0 0), (right-false 3 0 denied (lit< tt), (stuck-right (placeAt 2 1 0), (right-false 3 1 denied (lit< tt), tt)))),
@@ -167,7 +172,7 @@ all-false-right = (
   (right-false 4 0 denied (lit< tt), (right-false 5 0 denied (lit< tt), (right-false 4 1 denied (lit< tt), (right-false 5 1 denied (lit< tt), tt)))),
 )
   where
-    unseen : (c : Place) (v : Said) → FalseRight covers question (turn c v skipped)
+    unseen : (c : BlockPlace) (v : Said) → FalseRight covers question (judgement c v skipped)
     unseen = not-looked-at covers question
 
 -- so the white pixel holds no solution
@@ -191,33 +196,33 @@ mark-right : OneInEach covers question (placeAt 0 0 0)
 unfolding OneInEach coversPixel coversAlong beginsIn pixel₀ pixel₁ pixel₂
 mark-right = each-pixel (λ p. T (covers (placeAt 0 0 0) p) → HasSolution question p) (λ k. solved) (λ k. absurd k) (λ k. absurd k)
 
-marked-right : MarkRight covers question (turn (placeAt 0 0 0) saidTrue marked)
+marked-right : MarkRight covers question (judgement (placeAt 0 0 0) saidTrue marked)
 unfolding MarkRight
 marked-right l e = mark-right
 
-all-marks-right : EveryTurn covers cutting false (MarkRight covers question) run judged
-unfolding EveryTurn run run₃ judged played₁ played₂ played₃ played₄ played₅ played₆ Every
+all-marks-right : EveryJudgement covers cutting false (MarkRight covers question) run judged
+unfolding EveryJudgement run run₃ judged played₁ played₂ played₃ played₄ played₅ played₆
 all-marks-right = (
   (
     (
       (
         (
-          (tt, (open-right _ _, (open-right _ _, tt))),
-          (open-right _ _, (open-right _ _, tt)),
+          (tt, (undecided-right _ _, (undecided-right _ _, tt))),
+          (undecided-right _ _, (undecided-right _ _, tt)),
         ),
-        (open-right _ _, tt),
+        (undecided-right _ _, tt),
       ),
-      (marked-right, (denied-right _ _, (denied-right _ _, (open-right _ _, tt)))),
+      (marked-right, (denied-right _ _, (denied-right _ _, (undecided-right _ _, tt)))),
     ),
-    (open-right _ _, (denied-right _ _, (open-right _ _, (denied-right _ _, tt)))),
+    (undecided-right _ _, (denied-right _ _, (undecided-right _ _, (denied-right _ _, tt)))),
   ),
   (denied-right _ _, (denied-right _ _, (denied-right _ _, (denied-right _ _, tt)))),
 )
   where
-    open-right : (c : Place) (f : Fate Place) → MarkRight covers question (turn c saidOpen f)
-    open-right = open-unmarked covers question
+    undecided-right : (c : BlockPlace) (f : ChildEnd BlockPlace) → MarkRight covers question (judgement c saidUndecided f)
+    undecided-right = undecided-unmarked covers question
 
-    denied-right : (c : Place) (f : Fate Place) → MarkRight covers question (turn c saidFalse f)
+    denied-right : (c : BlockPlace) (f : ChildEnd BlockPlace) → MarkRight covers question (judgement c saidFalse f)
     denied-right = false-unmarked covers question
 
 black : HasSolution question pixel₀

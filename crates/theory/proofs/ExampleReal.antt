@@ -1,5 +1,5 @@
 -- A run with a real parameter and neither x nor y, in which every hypothesis is supplied: one pixel, t from 0 to 2 (fractions), is t at least 3? Setup cuts
--- [0,2] into [0,0], [0,2], [2,2]; of the second, cut at its middle, [0,1] is left open and cut again. In four steps every other piece is said to be false,
+-- [0,2] into [0,0], [0,2], [2,2]; of the second, cut at its middle, [0,1] is left undecided and cut again. In four steps every other piece is said to be false,
 -- and the pixel reads False.
 use mathlib.Core.Path.{_≡_, refl}
 use mathlib.Core.Bool.{Bool, true, false}
@@ -8,16 +8,18 @@ use Prim.Native.Nat.{ℕ, _+_, _*_, _≤_, _<_}
 use native.Mathlib.Nat.{mul-pos, mul-le-mul-right, mul-lt-mul-of-pos-right}
 use native.Mathlib.Omega.{arith}
 use lib.Dec.{T, lit<}
-use Rattle.theory.specs.Lists.{Every}
 use Rattle.theory.specs.Cells.{named, standingReads, renamed}
 use Rattle.theory.specs.Runs.{Snapshot, queuedBy, AcceptedSetup, Narrower, cellAfter, FinishedStep, FinishedSteps, no-step, one-more, EveryStep}
 use Rattle.theory.specs.Demand3.{pixelReads}
-use Rattle.theory.specs.Colours.{Question, HasSolution, Holds, NoneIn, HoldsAll, saidFalse, saidOpen, denied, queuedAs, Turn, turn, childOf, inTurn, afterwards, Cutting, Follows, NotAllTrue, SkipRule, LosesNothing, Judged, EveryTurn, FalseRight}
+use Rattle.theory.specs.Colours.{Question, HasSolution, Holds, NoneIn, HoldsAll, saidFalse, saidUndecided, denied, waitsAs, Judgement, judgement}
+use Rattle.theory.specs.Colours.{judgedChild, marksInOrder, afterwards, Cutting, Follows, NotAllTrue, SkipRule, LosesNothing, StepByVerdicts}
+use Rattle.theory.specs.Colours.{EveryJudgement, FalseRight}
 use Rattle.theory.specs.Positions.{Fraction, AtMost}
 use Rattle.theory.specs.Cuts.{End, minusInf, finite, plusInf, Span, span, pointSpan, firstPieces, laterPieces, UpToEnd, InSpan}
-use Rattle.theory.proofs.ListLaws.{some-mono}
+use Rattle.base.specs.Lists.{Every}
+use Rattle.base.proofs.ListLaws.{some-mono}
 use Rattle.theory.proofs.Edges.{at-most-total}
-use Rattle.theory.proofs.ExampleSteps.{Played, asStep, asJudged, not-true, open-not-false}
+use Rattle.theory.proofs.ExampleSteps.{Played, asStep, asJudged, not-true, undecided-not-false}
 use Rattle.theory.proofs.Theorems as Promise
 
 abbrev Pixel : Type 0
@@ -117,7 +119,6 @@ abbrev s₄ : State
 s₄ = snapshot 4 [] 3
 
 accepted : AcceptedSetup covers s₀
-unfolding Every
 accepted = record { none-taken = refl; some-block = lit< tt; cover-all = (λ p. tt, (λ p. tt, (λ p. tt, tt))); name-last = λ p. refl }
 
 -- setup's blocks are the pieces of the first cut
@@ -126,11 +127,11 @@ unfolding HoldsAll Holds firstPieces pointSpan
 holds-all t p g a = some-mono (λ u. InSpan AtMost u t) (λ u. InSpan AtMost u t × T true) (s₀ .queue) (λ u o. (o, tt))
     (Promise.first-real-loses-nothing AtMost range t g)
 
-abbrev no : Fraction → Fraction → Turn (Span Fraction)
-no a b = turn (from-to a b) saidFalse denied
+abbrev no : Fraction → Fraction → Judgement (Span Fraction)
+no a b = judgement (from-to a b) saidFalse denied
 
-abbrev waits : Span Fraction → Turn (Span Fraction)
-waits c = turn c saidOpen (queuedAs c)
+abbrev waits : Span Fraction → Judgement (Span Fraction)
+waits c = judgement c saidUndecided (waitsAs c)
 
 abbrev Step : State → State → Type 0
 Step = Played covers cutting false
@@ -138,21 +139,21 @@ Step = Played covers cutting false
 abbrev step : {s s′ : State} → Step s s′ → FinishedStep covers false s s′
 step y = asStep covers cutting false (λ c d p e. refl) y
 
-abbrev judge : {s s′ : State} (y : Step s s′) → Judged covers cutting false s s′ (step y)
+abbrev judge : {s s′ : State} (y : Step s s′) → StepByVerdicts covers cutting false s s′ (step y)
 judge y = asJudged covers cutting false (λ c d p e. refl) y
 
 -- every piece covers the one pixel
 narrow : (v : Span Fraction) → Every (Narrower covers v) (cutting .children v)
-unfolding Every Narrower laterPieces
+unfolding Narrower laterPieces
 narrow v = (λ p k. tt, (λ p k. tt, (λ p k. tt, tt)))
 
 unfoldable played₁ : Step s₀ s₁
-unfolding childOf laterPieces Every Follows inTurn afterwards queuedBy cellAfter SkipRule NotAllTrue
+unfolding judgedChild laterPieces Follows marksInOrder afterwards queuedBy cellAfter SkipRule NotAllTrue
 played₁ =
     record {
       taken-block = at-0;
       others = range ∷ at-2 ∷ [];
-      turns = no (whole 0) c₁ ∷ no c₁ c₁ ∷ no c₁ (whole 0) ∷ [];
+      judgements = no (whole 0) c₁ ∷ no c₁ c₁ ∷ no c₁ (whole 0) ∷ [];
       in-front = refl;
       checked = tt;
       narrower = narrow at-0;
@@ -165,12 +166,12 @@ played₁ =
     }
 
 unfoldable played₂ : Step s₁ s₂
-unfolding childOf laterPieces Every Follows inTurn afterwards queuedBy cellAfter renamed SkipRule NotAllTrue
+unfolding judgedChild laterPieces Follows marksInOrder afterwards queuedBy cellAfter renamed SkipRule NotAllTrue
 played₂ =
     record {
       taken-block = range;
       others = at-2 ∷ [];
-      turns = waits low-half ∷ no c₂ c₂ ∷ no c₂ (whole 2) ∷ [];
+      judgements = waits low-half ∷ no c₂ c₂ ∷ no c₂ (whole 2) ∷ [];
       in-front = refl;
       checked = tt;
       narrower = narrow range;
@@ -183,12 +184,12 @@ played₂ =
     }
 
 unfoldable played₃ : Step s₂ s₃
-unfolding childOf laterPieces Every Follows inTurn afterwards queuedBy cellAfter SkipRule NotAllTrue
+unfolding judgedChild laterPieces Follows marksInOrder afterwards queuedBy cellAfter SkipRule NotAllTrue
 played₃ =
     record {
       taken-block = at-2;
       others = low-half ∷ [];
-      turns = no (whole 2) c₃ ∷ no c₃ c₃ ∷ no c₃ (whole 2) ∷ [];
+      judgements = no (whole 2) c₃ ∷ no c₃ c₃ ∷ no c₃ (whole 2) ∷ [];
       in-front = refl;
       checked = tt;
       narrower = narrow at-2;
@@ -201,12 +202,12 @@ played₃ =
     }
 
 unfoldable played₄ : Step s₃ s₄
-unfolding childOf laterPieces Every Follows inTurn afterwards queuedBy cellAfter SkipRule NotAllTrue
+unfolding judgedChild laterPieces Follows marksInOrder afterwards queuedBy cellAfter SkipRule NotAllTrue
 played₄ =
     record {
       taken-block = low-half;
       others = [];
-      turns = no (whole 0) c₄ ∷ no c₄ c₄ ∷ no c₄ c₂ ∷ [];
+      judgements = no (whole 0) c₄ ∷ no c₄ c₄ ∷ no c₄ c₂ ∷ [];
       in-front = refl;
       checked = tt;
       narrower = narrow low-half;
@@ -221,7 +222,7 @@ played₄ =
 unfoldable run : FinishedSteps covers false 4 s₀ s₄
 run = one-more (one-more (one-more (one-more no-step (step played₁)) (step played₂)) (step played₃)) (step played₄)
 
-unfoldable judged : EveryStep covers false (Judged covers cutting false) run
+unfoldable judged : EveryStep covers false (StepByVerdicts covers cutting false) run
 unfolding run EveryStep
 judged = ((((tt, judge played₁), judge played₂), judge played₃), judge played₄)
 
@@ -236,13 +237,13 @@ under-3 a b l n e t p g o h s =
     let k : b .num * t .den < 3 * b .den * t .den = mul-lt-mul-of-pos-right l (t .den-pos) in
     omega arith
 
-all-right : EveryTurn covers cutting false (FalseRight covers question) run judged
-unfolding EveryTurn run judged played₁ played₂ played₃ played₄ Every halfWay
+all-right : EveryJudgement covers cutting false (FalseRight covers question) run judged
+unfolding EveryJudgement run judged played₁ played₂ played₃ played₄ halfWay
 all-right = (
   (
     (
       (tt, (under-3 (whole 0) c₁ (lit< tt), (under-3 c₁ c₁ (lit< tt), (under-3 c₁ (whole 0) (lit< tt), tt)))),
-      (open-not-false covers question low-half (queuedAs low-half), (under-3 c₂ c₂ (lit< tt), (under-3 c₂ (whole 2) (lit< tt), tt))),
+      (undecided-not-false covers question low-half (waitsAs low-half), (under-3 c₂ c₂ (lit< tt), (under-3 c₂ (whole 2) (lit< tt), tt))),
     ),
     (under-3 (whole 2) c₃ (lit< tt), (under-3 c₃ c₃ (lit< tt), (under-3 c₃ (whole 2) (lit< tt), tt))),
   ),

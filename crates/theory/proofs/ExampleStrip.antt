@@ -9,16 +9,19 @@ use Prim.Native.Nat.{ℕ, zero, suc, _*_, _≤_, _<_}
 use native.Mathlib.Nat.{mul-le-mul-right}
 use native.Mathlib.Omega.{arith}
 use lib.Dec.{T, ltb, lit<, lit≤}
-use Rattle.theory.specs.Lists.{Every, Some}
-use Rattle.theory.specs.Cells.{Standing, isTrue, givenUp, named, readsTrue, readsFalse, standingReads, renamed}
+use Rattle.base.specs.Lists.{Every, Some}
+use Rattle.theory.specs.Cells.{Standing, markedTrue, givenUp, named, readsTrue, readsFalse, standingReads, renamed}
 use Rattle.theory.specs.Runs.{Snapshot, queuedBy, AcceptedSetup, Narrower, cellAfter, FinishedStep, FinishedSteps, no-step, one-more, EveryStep}
 use Rattle.theory.specs.Demand3.{pixelReads, CoversAtMostOne}
-use Rattle.theory.specs.Levels.{Place, placeAt, OneBlock, QueuesChildren, QueuesAbove, sumTo, placesAlong, stripPlacesAbove, stripPixelFigure}
-use Rattle.theory.specs.Shapes.{PixelIn, beginsIn, coversAlong, coversPixel, coversByPlace, isListed, listedIf, halvesAt, halvesInX}
-use Rattle.theory.specs.Colours.{Question, HasSolution, Holds, NoneIn, OneInEach, HoldsAll, saidFalse, saidTrue, saidOpen, Fate, skipped, denied, marked, queuedAs, Turn, turn, childOf, inTurn, afterwards, Cutting, Follows, AllTrue, NotAllTrue, SkipRule, LosesNothing, Judged, EveryTurn, FalseRight, MarkRight}
+use Rattle.theory.specs.Levels.{BlockPlace, placeAt, OneBlock, QueuesChildren, QueuesAbove, sumTo, placesAlong, stripPlacesAbove, stripPixelFigure}
+use Rattle.theory.specs.Shapes.{PixelIn, beginsIn, coversAlong, coversPixel, coversByPlace, isListed, placeIf, halvesAt, halvesInX}
+use Rattle.theory.specs.Colours.{Question, HasSolution, Holds, NoneIn, OneInEach, HoldsAll, saidFalse, saidTrue, saidUndecided, ChildEnd, skipped}
+use Rattle.theory.specs.Colours.{denied, marked, waitsAs, Judgement, judgement, judgedChild, marksInOrder, afterwards, Cutting, Follows}
+use Rattle.theory.specs.Colours.{AllTrue, NotAllTrue, SkipRule, LosesNothing, StepByVerdicts, EveryJudgement, FalseRight, MarkRight}
 use Rattle.theory.specs.Positions.{StripHolds, LiesBetween, Fraction, AtMost, exactEdge, LiesExactly, InPixelAlong}
 use Rattle.theory.proofs.Bounds.{same-pixel}
-use Rattle.theory.proofs.ExampleSteps.{Played, asStep, asJudged, not-true, open-not-false, true-not-false, not-looked-at, open-unmarked, false-unmarked}
+use Rattle.theory.proofs.ExampleSteps.{Played, asStep, asJudged, not-true, undecided-not-false, true-not-false, not-looked-at}
+use Rattle.theory.proofs.ExampleSteps.{undecided-unmarked, false-unmarked}
 use Rattle.theory.proofs.Theorems as Promise
 
 -- ---- the strip
@@ -45,43 +48,43 @@ either P a b p = go (p .x) refl
     go (suc zero) e = subst P (same-pixel right p (sym e) (sym y0)) b
     go (suc (suc x)) e = absurd (omega (arith, p .x-in))
 
-abbrev covers : Place → Pixel → Bool
+abbrev covers : BlockPlace → Pixel → Bool
 covers = coversByPlace 2 1 1 (λ b. b)
 
 abbrev State : Type 0
-State = Snapshot Place Pixel
+State = Snapshot BlockPlace Pixel
 
-abbrev snapshot : ℕ → List Place → Standing → Standing → State
+abbrev snapshot : ℕ → List BlockPlace → Standing → Standing → State
 snapshot n q a b = record { taken = n; queue = q; cells = λ p. cond (ltb (p .x) 1) a b }
 
 -- a step halves in x, and checks that its block is above the floor; a child keeps its place
-abbrev cutting : Cutting Place
+abbrev cutting : Cutting BlockPlace
 cutting = record { children = halvesInX 1 2; Checked = λ b. zero < b .level; Same = λ c d. d ≡ c }
 
 inside : (x j : ℕ) → Every (Narrower covers (placeAt x 0 j)) (halvesInX 1 2 (placeAt x 0 j))
 unfolding Narrower
 inside x j = Promise.halves-stay-inside 2 1 (placeAt x 0 j) refl
 
-same-place : (c d : Place) (p : Pixel) → d ≡ c → covers d p ≡ covers c p
-same-place c d p e = ap (λ (b : Place). covers b p) e
+same-place : (c d : BlockPlace) (p : Pixel) → d ≡ c → covers d p ≡ covers c p
+same-place c d p e = ap (λ (b : BlockPlace). covers b p) e
 
 -- ---- the run
 
-abbrev waits : Place → Turn Place
-waits c = turn c saidOpen (queuedAs c)
+abbrev waits : BlockPlace → Judgement BlockPlace
+waits c = judgement c saidUndecided (waitsAs c)
 
-abbrev no : ℕ → Turn Place
-no i = turn (placeAt i 0 0) saidFalse denied
+abbrev no : ℕ → Judgement BlockPlace
+no i = judgement (placeAt i 0 0) saidFalse denied
 
-abbrev turns₁ : List (Turn Place)
-turns₁ = waits (placeAt 0 0 1) ∷ waits (placeAt 1 0 1) ∷ []
+abbrev judgements₁ : List (Judgement BlockPlace)
+judgements₁ = waits (placeAt 0 0 1) ∷ waits (placeAt 1 0 1) ∷ []
 
 -- once the first is marked, nobody looks at what is said of the other
-abbrev turns₂ : List (Turn Place)
-turns₂ = turn (placeAt 0 0 0) saidTrue marked ∷ turn (placeAt 1 0 0) saidFalse skipped ∷ []
+abbrev judgements₂ : List (Judgement BlockPlace)
+judgements₂ = judgement (placeAt 0 0 0) saidTrue marked ∷ judgement (placeAt 1 0 0) saidFalse skipped ∷ []
 
-abbrev turns₃ : List (Turn Place)
-turns₃ = no 2 ∷ no 3 ∷ []
+abbrev judgements₃ : List (Judgement BlockPlace)
+judgements₃ = no 2 ∷ no 3 ∷ []
 
 abbrev s₀ : State
 s₀ = snapshot 0 (placeAt 0 0 2 ∷ []) (named 0) (named 0)
@@ -90,10 +93,10 @@ abbrev s₁ : State
 s₁ = snapshot 1 (placeAt 0 0 1 ∷ placeAt 1 0 1 ∷ []) (named 1) (named 2)
 
 abbrev s₂ : State
-s₂ = snapshot 2 (placeAt 1 0 1 ∷ []) isTrue (named 2)
+s₂ = snapshot 2 (placeAt 1 0 1 ∷ []) markedTrue (named 2)
 
 abbrev s₃ : State
-s₃ = snapshot 3 [] isTrue (named 2)
+s₃ = snapshot 3 [] markedTrue (named 2)
 
 abbrev Step : State → State → Type 0
 Step = Played covers cutting false
@@ -101,17 +104,17 @@ Step = Played covers cutting false
 abbrev step : {s s′ : State} → Step s s′ → FinishedStep covers false s s′
 step y = asStep covers cutting false same-place y
 
-abbrev judge : {s s′ : State} (y : Step s s′) → Judged covers cutting false s s′ (step y)
+abbrev judge : {s s′ : State} (y : Step s s′) → StepByVerdicts covers cutting false s s′ (step y)
 judge y = asJudged covers cutting false same-place y
 
 unfoldable played₁ : Step s₀ s₁
-unfolding left right childOf halvesInX halvesAt listedIf isListed beginsIn Every Follows inTurn afterwards queuedBy
+unfolding left right judgedChild halvesInX halvesAt placeIf isListed beginsIn Follows marksInOrder afterwards queuedBy
     cellAfter coversPixel coversAlong renamed SkipRule NotAllTrue
 played₁ =
     record {
       taken-block = placeAt 0 0 2;
       others = [];
-      turns = turns₁;
+      judgements = judgements₁;
       in-front = refl;
       checked = lit< tt;
       narrower = inside 0 2;
@@ -120,17 +123,19 @@ played₁ =
       skip-rule = ((left, tt, not-true 0), ((right, tt, not-true 0), tt));
       counted = refl;
       queued = refl;
-      changed = either (λ p. s₁ .cells p ≡ cellAfter covers false 0 (placeAt 0 0 2) 1 (inTurn turns₁ ++ afterwards turns₁) p (s₀ .cells p)) refl refl;
+      changed = either
+          (λ p. s₁ .cells p ≡ cellAfter covers false 0 (placeAt 0 0 2) 1 (marksInOrder judgements₁ ++ afterwards judgements₁) p (s₀ .cells p))
+          refl refl;
     }
 
 unfoldable played₂ : Step s₁ s₂
-unfolding left right childOf halvesInX halvesAt listedIf isListed beginsIn Every Follows inTurn afterwards queuedBy
+unfolding left right judgedChild halvesInX halvesAt placeIf isListed beginsIn Follows marksInOrder afterwards queuedBy
     cellAfter coversPixel coversAlong renamed SkipRule AllTrue NotAllTrue
 played₂ =
     record {
       taken-block = placeAt 0 0 1;
       others = placeAt 1 0 1 ∷ [];
-      turns = turns₂;
+      judgements = judgements₂;
       in-front = refl;
       checked = lit< tt;
       narrower = inside 0 1;
@@ -140,23 +145,25 @@ played₂ =
         (left, tt, not-true 1),
         (
           either
-              (λ p. T (covers (placeAt 1 0 0) p) → cond (covers (placeAt 0 0 0) p) isTrue (s₁ .cells p) ≡ isTrue) (λ k. refl) (λ k. absurd k),
+              (λ p. T (covers (placeAt 1 0 0) p) → cond (covers (placeAt 0 0 0) p) markedTrue (s₁ .cells p) ≡ markedTrue) (λ k. refl) (λ k. absurd k),
           tt,
         ),
       );
       counted = refl;
       queued = refl;
-      changed = either (λ p. s₂ .cells p ≡ cellAfter covers false 1 (placeAt 0 0 1) 3 (inTurn turns₂ ++ afterwards turns₂) p (s₁ .cells p)) refl refl;
+      changed = either
+          (λ p. s₂ .cells p ≡ cellAfter covers false 1 (placeAt 0 0 1) 3 (marksInOrder judgements₂ ++ afterwards judgements₂) p (s₁ .cells p))
+          refl refl;
     }
 
 unfoldable played₃ : Step s₂ s₃
-unfolding left right childOf halvesInX halvesAt listedIf isListed beginsIn Every Follows inTurn afterwards queuedBy
+unfolding left right judgedChild halvesInX halvesAt placeIf isListed beginsIn Follows marksInOrder afterwards queuedBy
     cellAfter coversPixel coversAlong SkipRule NotAllTrue
 played₃ =
     record {
       taken-block = placeAt 1 0 1;
       others = [];
-      turns = turns₃;
+      judgements = judgements₃;
       in-front = refl;
       checked = lit< tt;
       narrower = inside 1 1;
@@ -165,7 +172,9 @@ played₃ =
       skip-rule = ((right, tt, not-true 2), ((right, tt, not-true 2), tt));
       counted = refl;
       queued = refl;
-      changed = either (λ p. s₃ .cells p ≡ cellAfter covers false 2 (placeAt 1 0 1) 3 (inTurn turns₃ ++ afterwards turns₃) p (s₂ .cells p)) refl refl;
+      changed = either
+          (λ p. s₃ .cells p ≡ cellAfter covers false 2 (placeAt 1 0 1) 3 (marksInOrder judgements₃ ++ afterwards judgements₃) p (s₂ .cells p))
+          refl refl;
     }
 
 unfoldable run₁ : FinishedSteps covers false 1 s₀ s₁
@@ -174,12 +183,12 @@ run₁ = one-more no-step (step played₁)
 unfoldable run : FinishedSteps covers false 3 s₀ s₃
 run = one-more (one-more run₁ (step played₂)) (step played₃)
 
-unfoldable judged : EveryStep covers false (Judged covers cutting false) run
+unfoldable judged : EveryStep covers false (StepByVerdicts covers cutting false) run
 unfolding run run₁ EveryStep
 judged = (((tt, judge played₁), judge played₂), judge played₃)
 
 accepted : AcceptedSetup covers s₀
-unfolding Every coversPixel coversAlong beginsIn left right
+unfolding coversPixel coversAlong beginsIn left right
 accepted = record {
   none-taken = refl;
   some-block = lit< tt;
@@ -192,12 +201,13 @@ accepted = record {
 begun : OneBlock (λ b. b) 1 2 1 1 s₀
 begun = record { some-width = lit< tt; some-height = lit< tt; wide = lit≤ tt; high = lit≤ tt; root = placeAt 0 0 2; at-root = refl; one-block = refl }
 
-queues-halves : (s s′ : State) (st : FinishedStep covers false s s′) → Judged covers cutting false s s′ st
+queues-halves : (s s′ : State) (st : FinishedStep covers false s s′) → StepByVerdicts covers cutting false s s′ st
     → QueuesChildren covers false (λ b. b) (halvesInX 1 2) s s′ st
-queues-halves s s′ st j = Promise.queues-by-turns covers cutting false (λ b. b) (halvesInX 1 2) (λ c d e. e) s s′ st (map-id (halvesInX 1 2 (st .front))) j
+queues-halves s s′ st j = Promise.queues-by-judgements covers cutting false (λ b. b) (halvesInX 1 2) (λ c d e. e) s s′ st (map-id (halvesInX 1 2 (st .front))) j
 
 queues-children : EveryStep covers false (QueuesChildren covers false (λ b. b) (halvesInX 1 2)) run
-queues-children = Promise.each-step covers false (Judged covers cutting false) (QueuesChildren covers false (λ b. b) (halvesInX 1 2)) queues-halves run judged
+queues-children =
+    Promise.each-step covers false (StepByVerdicts covers cutting false) (QueuesChildren covers false (λ b. b) (halvesInX 1 2)) queues-halves run judged
 
 -- one step reaches the sum over j from 1 to 1, and two blocks wait, a pixel each
 one-pixel-each : Every (CoversAtMostOne covers) (s₁ .queue)
@@ -205,7 +215,7 @@ one-pixel-each = Promise.strip-pixel-bound 2 1 1 false (λ b. b) begun run₁ (u
     (unfold stripPixelFigure sumTo placesAlong in lit≤ tt)
 
 queues-above : EveryStep covers false (QueuesAbove covers false (λ b. b) 0) run
-unfolding run run₁ EveryStep QueuesAbove played₁ played₂ played₃ inTurn afterwards queuedBy Every
+unfolding run run₁ EveryStep QueuesAbove played₁ played₂ played₃ marksInOrder afterwards queuedBy
 queues-above = (((tt, (lit< tt, (lit< tt, tt))), tt), tt)
 
 -- three reach the sum over all levels above the floor
@@ -215,7 +225,7 @@ nothing-left = Promise.empty-at-floor covers false (λ b. b) begun run 0 (lit< t
 
 -- ---- the colours: where is x at most a half?
 
-abbrev question : Question Place Pixel
+abbrev question : Question BlockPlace Pixel
 question =
     record {
       Mix = Fraction;
@@ -248,18 +258,18 @@ right-of-1 i l n e m p g a h s =
     let r : 2 * m .den ≤ i * m .den = mul-le-mul-right (m .den) l in
     omega arith
 
-all-false-right : EveryTurn covers cutting false (FalseRight covers question) run judged
-unfolding EveryTurn run run₁ judged played₁ played₂ played₃ Every
+all-false-right : EveryJudgement covers cutting false (FalseRight covers question) run judged
+unfolding EveryJudgement run run₁ judged played₁ played₂ played₃
 all-false-right = (
   (
-    (tt, (left-open (placeAt 0 0 1), (left-open (placeAt 1 0 1), tt))),
+    (tt, (left-undecided (placeAt 0 0 1), (left-undecided (placeAt 1 0 1), tt))),
     (true-not-false covers question (placeAt 0 0 0) marked, (not-looked-at covers question (placeAt 1 0 0) saidFalse, tt)),
   ),
   (right-of-1 2 (lit< tt), (right-of-1 3 (lit< tt), tt)),
 )
   where
-    left-open : (c : Place) → FalseRight covers question (waits c)
-    left-open c = open-not-false covers question c (queuedAs c)
+    left-undecided : (c : BlockPlace) → FalseRight covers question (waits c)
+    left-undecided c = undecided-not-false covers question c (waitsAs c)
 
 reads : (pixelReads s₃ left ≡ readsTrue) × (pixelReads s₃ right ≡ readsFalse)
 unfolding pixelReads standingReads left right
@@ -282,21 +292,21 @@ solved : HasSolution question left
 unfolding HasSolution LiesBetween AtMost exactEdge origin left
 solved = (origin, tt, (lit≤ tt, lit≤ tt), lit≤ tt)
 
-marked-right : MarkRight covers question (turn (placeAt 0 0 0) saidTrue marked)
+marked-right : MarkRight covers question (judgement (placeAt 0 0 0) saidTrue marked)
 unfolding MarkRight OneInEach coversPixel coversAlong beginsIn left right
 marked-right l e = either (λ p. T (covers (placeAt 0 0 0) p) → HasSolution question p) (λ k. solved) (λ k. absurd k)
 
-all-marks-right : EveryTurn covers cutting false (MarkRight covers question) run judged
-unfolding EveryTurn run run₁ judged played₁ played₂ played₃ Every
+all-marks-right : EveryJudgement covers cutting false (MarkRight covers question) run judged
+unfolding EveryJudgement run run₁ judged played₁ played₂ played₃
 all-marks-right = (
-  ((tt, (left-open (placeAt 0 0 1), (left-open (placeAt 1 0 1), tt))), (marked-right, (said-false 1 skipped, tt))),
+  ((tt, (left-undecided (placeAt 0 0 1), (left-undecided (placeAt 1 0 1), tt))), (marked-right, (said-false 1 skipped, tt))),
   (said-false 2 denied, (said-false 3 denied, tt)),
 )
   where
-    left-open : (c : Place) → MarkRight covers question (waits c)
-    left-open c = open-unmarked covers question c (queuedAs c)
+    left-undecided : (c : BlockPlace) → MarkRight covers question (waits c)
+    left-undecided c = undecided-unmarked covers question c (waitsAs c)
 
-    said-false : (i : ℕ) (f : Fate Place) → MarkRight covers question (turn (placeAt i 0 0) saidFalse f)
+    said-false : (i : ℕ) (f : ChildEnd BlockPlace) → MarkRight covers question (judgement (placeAt i 0 0) saidFalse f)
     said-false i = false-unmarked covers question (placeAt i 0 0)
 
 -- and both pixels are decided

@@ -1,4 +1,4 @@
--- The False rule, with "was given up" said by events; False stays False; a step leaves the readings elsewhere as they are. Assumes nothing.
+-- The False rule, with what was given up said by events; False stays False; a step leaves the readings elsewhere as they are. Assumes nothing.
 use mathlib.Core.Path.{_≡_, refl, _∙_}
 use mathlib.Core.Logic.{inl, inr, ⊎-elim, _↔_}
 use mathlib.Core.Bool.{Bool}
@@ -8,35 +8,34 @@ use native.Mathlib.Decide.{decLt}
 use native.Mathlib.Omega.{arith}
 use lib.Dec.{T}
 use borrow.Author.Tests.{le-leb, lt-leb}
-use Rattle.theory.specs.Lists.{Every}
-use Rattle.theory.specs.Cells.{Standing, isTrue, givenUp, named, readsTrue, readsFalse, standingReads}
+use Rattle.theory.specs.Cells.{Standing, markedTrue, givenUp, named, readsTrue, readsFalse, standingReads}
 use Rattle.theory.specs.Runs.{Snapshot, AcceptedSetup, FinishedStep, FinishedSteps, no-step, one-more}
 use Rattle.theory.specs.Demand3.{pixelReads, NoneCovers, coversAtPlace, NamesLast, WasGivenUp}
-use Rattle.theory.proofs.Settled.{Settled}
-use Rattle.theory.proofs.StandingLaws.{reads-false, reads-true, step-untouched, step-settled, step-settles, step-given-up}
+use Rattle.theory.proofs.Nameless.{Nameless}
+use Rattle.theory.proofs.StandingLaws.{reads-false, reads-true, step-untouched, step-nameless, step-unnames, step-given-up}
 use Rattle.theory.proofs.Invariant.{Sound, AllSound, setup-sound, steps-sound}
 
 module _ {Block Pixel : Type 0} (covers : Block → Pixel → Bool) where
   -- no place of the list covers the pixel exactly if no block of it does
   none-of : (q : List Block) (p : Pixel) → ((i : ℕ) → ¬ T (coversAtPlace covers q i p)) → NoneCovers covers q p
-  unfolding coversAtPlace NoneCovers Every
+  unfolding coversAtPlace NoneCovers
   none-of [] p h = tt
   none-of (b ∷ q) p h = (h zero, none-of q p (λ i. h (suc i)))
 
   none-at : (q : List Block) (p : Pixel) → NoneCovers covers q p → (i : ℕ) → ¬ T (coversAtPlace covers q i p)
-  unfolding coversAtPlace NoneCovers Every
+  unfolding coversAtPlace NoneCovers
   none-at [] p h i k = k
   none-at (b ∷ q) p h zero k = h .0 k
   none-at (b ∷ q) p h (suc i) k = none-at q p (h .1) i k
 
-  -- the rule with the cell's own state for "was given up"
+  -- the rule with the cell's own state for what was given up
   pub false-by-cell : (s : Snapshot Block Pixel) → AllSound covers s → (p : Pixel)
-      → (pixelReads s p ≡ readsFalse) ↔ ((¬ (s .cells p ≡ isTrue)) × (¬ (s .cells p ≡ givenUp)) × NoneCovers covers (s .queue) p)
+      → (pixelReads s p ≡ readsFalse) ↔ ((¬ (s .cells p ≡ markedTrue)) × (¬ (s .cells p ≡ givenUp)) × NoneCovers covers (s .queue) p)
   unfolding AllSound pixelReads
   false-by-cell s sound p = (there, back (s .cells p) refl)
     where
       there : standingReads (s .taken) (s .cells p) ≡ readsFalse
-          → (¬ (s .cells p ≡ isTrue)) × (¬ (s .cells p ≡ givenUp)) × NoneCovers covers (s .queue) p
+          → (¬ (s .cells p ≡ markedTrue)) × (¬ (s .cells p ≡ givenUp)) × NoneCovers covers (s .queue) p
       there e =
           let (n, f, h) = reads-false (s .taken) (s .cells p) .0 e in
           let o : NamesLast covers (s .taken) (s .queue) p n = rw f at (sound p) in (
@@ -45,9 +44,9 @@ module _ {Block Pixel : Type 0} (covers : Block → Pixel → Bool) where
             none-of (s .queue) p (λ i k. (let r = o .none-behind i k in omega arith)),
           )
 
-      back : (v : Standing) → s .cells p ≡ v → (¬ (s .cells p ≡ isTrue)) × (¬ (s .cells p ≡ givenUp)) × NoneCovers covers (s .queue) p
+      back : (v : Standing) → s .cells p ≡ v → (¬ (s .cells p ≡ markedTrue)) × (¬ (s .cells p ≡ givenUp)) × NoneCovers covers (s .queue) p
           → standingReads (s .taken) (s .cells p) ≡ readsFalse
-      back isTrue e h = absurd (h .0 e)
+      back markedTrue e h = absurd (h .0 e)
       back givenUp e h = absurd (h .1 e)
       back (named n) e h = elim (decLt n (s .taken)) [
         | yes k ↦ reads-false (s .taken) (s .cells p) .1 (n, e, k)
@@ -56,13 +55,13 @@ module _ {Block Pixel : Type 0} (covers : Block → Pixel → Bool) where
       ]
 
   module _ (spare : Bool) where
-    -- what was given up is settled for ever
-    pub ever-settled : {n : ℕ} {s s′ : Snapshot Block Pixel} (r : FinishedSteps covers spare n s s′) (p : Pixel) → WasGivenUp covers spare r p
-        → Settled (s′ .cells p)
+    -- what was given up names no block ever after
+    pub ever-nameless : {n : ℕ} {s s′ : Snapshot Block Pixel} (r : FinishedSteps covers spare n s s′) (p : Pixel) → WasGivenUp covers spare r p
+        → Nameless (s′ .cells p)
     unfolding WasGivenUp
-    ever-settled no-step p h = absurd h
-    ever-settled (one-more r st) p (inl h) = step-settled covers spare st p (ever-settled r p h)
-    ever-settled (one-more r st) p (inr h) = step-settles covers spare st p (h .0) (h .1)
+    ever-nameless no-step p h = absurd h
+    ever-nameless (one-more r st) p (inl h) = step-nameless covers spare st p (ever-nameless r p h)
+    ever-nameless (one-more r st) p (inr h) = step-unnames covers spare st p (h .0) (h .1)
 
     -- what is given up was given up by a step
     pub now-was : {n : ℕ} {s s′ : Snapshot Block Pixel} → AcceptedSetup covers s → (r : FinishedSteps covers spare n s s′) (p : Pixel)
@@ -75,12 +74,12 @@ module _ {Block Pixel : Type 0} (covers : Block → Pixel → Bool) where
 
     -- said by events or by the cell, it is the same of a pixel that is not True
     pub was-now : {n : ℕ} {s₀ s : Snapshot Block Pixel} → AcceptedSetup covers s₀ → (r : FinishedSteps covers spare n s₀ s) (p : Pixel)
-        → ¬ (s .cells p ≡ isTrue)
+        → ¬ (s .cells p ≡ markedTrue)
         → WasGivenUp covers spare r p ↔ (s .cells p ≡ givenUp)
-    was-now {s = s} z r p h = ((λ g. go (s .cells p) refl (ever-settled r p g)), now-was z r p)
+    was-now {s = s} z r p h = ((λ g. go (s .cells p) refl (ever-nameless r p g)), now-was z r p)
       where
-        go : (v : Standing) → s .cells p ≡ v → Settled v → s .cells p ≡ givenUp
-        go isTrue e k = absurd (h e)
+        go : (v : Standing) → s .cells p ≡ v → Nameless v → s .cells p ≡ givenUp
+        go markedTrue e k = absurd (h e)
         go givenUp e k = e
         go (named n) e k = absurd k
 
@@ -97,7 +96,7 @@ module _ {Block Pixel : Type 0} (covers : Block → Pixel → Bool) where
         there e =
             let (n, f, h) = reads-false (s .taken) (s .cells p) .0 e in (
               (λ g. (let o : _≡_ {A = ℕ} 0 1 = cc in omega arith)),
-              (λ g. (let k : Settled (named n) = rw f at (ever-settled r p g) in k)),
+              (λ g. (let k : Nameless (named n) = rw f at (ever-nameless r p g) in k)),
               false-by-cell s sound p .0 e .2,
             )
 
@@ -108,7 +107,7 @@ module _ {Block Pixel : Type 0} (covers : Block → Pixel → Bool) where
     -- the taken block covers no pixel that reads False, so its step does not touch it
     false-step : {s s′ : Snapshot Block Pixel} → AllSound covers s → FinishedStep covers spare s s′ → (p : Pixel) → pixelReads s p ≡ readsFalse
         → pixelReads s′ p ≡ readsFalse
-    unfolding pixelReads NoneCovers Every
+    unfolding pixelReads NoneCovers
     false-step {s} {s′} sound st p e =
         let (n, f, h) = reads-false (s .taken) (s .cells p) .0 e in
         let none : NoneCovers covers (st .front ∷ st .rest) p = rw st.at-front at (false-by-cell s sound p .0 e .2) in
@@ -128,7 +127,7 @@ module _ {Block Pixel : Type 0} (covers : Block → Pixel → Bool) where
         (go (s .cells p) (rw st.at-front at (sound p)))
       where
         go : (v : Standing) → Sound covers (s .taken) (st .front ∷ st .rest) p v → standingReads (suc (s .taken)) v ≡ standingReads (s .taken) v
-        go isTrue o = unfold standingReads in refl
+        go markedTrue o = unfold standingReads in refl
         go givenUp o = unfold standingReads in refl
         go (named n) o = unfold standingReads coversAtPlace in elim (decLt n (s .taken)) [
           | yes k ↦ rw (lt-leb (s .taken) n k, lt-leb (suc (s .taken)) n (omega arith))

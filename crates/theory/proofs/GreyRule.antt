@@ -7,8 +7,8 @@ use Prim.Native.Nat.{ℕ, zero, suc, _-_}
 use native.Mathlib.Decide.{decLt}
 use native.Mathlib.Omega.{arith}
 use lib.Dec.{T}
-use Rattle.theory.specs.Lists.{Every, Some}
-use Rattle.theory.specs.Cells.{Standing, isTrue, givenUp, named, PixelReading, readsTrue, readsFalse, readsUncertain, standingReads}
+use Rattle.base.specs.Lists.{Some}
+use Rattle.theory.specs.Cells.{Standing, markedTrue, givenUp, named, PixelReading, readsTrue, readsFalse, readsUncertain}
 use Rattle.theory.specs.Runs.{Snapshot, AcceptedSetup, FinishedSteps}
 use Rattle.theory.specs.Demand3.{pixelReads, NoneCovers, coversAtPlace, NamesLast, WasGivenUp}
 use Rattle.theory.proofs.StandingLaws.{reads-false, reads-true}
@@ -38,7 +38,7 @@ module _ {Block Pixel : Type 0} (covers : Block → Pixel → Bool) where
 
   -- of a list of which none does, none does
   none-some : (q : List Block) (p : Pixel) → NoneCovers covers q p → ¬ Some (λ b. T (covers b p)) q
-  unfolding NoneCovers Every Some
+  unfolding NoneCovers Some
   none-some [] p n h = h
   none-some (b ∷ q) p n (inl h) = n .0 h
   none-some (b ∷ q) p n (inr h) = none-some q p (n .1) h
@@ -53,7 +53,7 @@ module _ {Block Pixel : Type 0} (covers : Block → Pixel → Bool) where
     by-cell e = go (s .cells p) refl
       where
         go : (v : Standing) → s .cells p ≡ v → Open
-        go isTrue f = absurd (grey-not-true e (reads-true (s .taken) (s .cells p) .1 f))
+        go markedTrue f = absurd (grey-not-true e (reads-true (s .taken) (s .cells p) .1 f))
         go givenUp f = inl (now-was covers spare z r p f)
         go (named m) f = elim (decLt m (s .taken)) [
           | yes h ↦ absurd (grey-not-false e (reads-false (s .taken) (s .cells p) .1 (m, f, h)))

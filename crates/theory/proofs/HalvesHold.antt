@@ -13,9 +13,9 @@ use lib.Pow.{pow-pos}
 use borrow.Author.Tests.{lt-ltb, le-ltb}
 use Rattle.base.proofs.Test.{both-of, of-both}
 use Rattle.base.proofs.AxisLaws.{begins-over, Reaches, covers-reaches, reaches-covers, root-covers, half-same}
-use Rattle.theory.specs.Lists.{Some}
-use Rattle.theory.specs.Levels.{Place, placeAt}
-use Rattle.theory.specs.Shapes.{PixelIn, beginsIn, coversAlong, coversPixel, HalfOf, isListed, listedIf, quartersAt, quarters, halvesAt, halvesInX}
+use Rattle.base.specs.Lists.{Some}
+use Rattle.theory.specs.Levels.{BlockPlace, placeAt}
+use Rattle.theory.specs.Shapes.{PixelIn, beginsIn, coversAlong, coversPixel, HalfOf, isListed, placeIf, quartersAt, quarters, halvesAt, halvesInX}
 use Rattle.theory.specs.Positions.{Ruler, PlaceHolds, StripHolds}
 use Rattle.theory.proofs.ChildPlaces.{zero-covers}
 
@@ -82,17 +82,17 @@ module _ (px : ℕ) {X : Type 0} (Lies : ℕ → ℕ → X → Type 0) (ruler : 
       under l = unfold HalfOf in ⊎-elim (λ m. with-half l (i + i) (inl refl) m) (λ m. with-half l (suc (i + i)) (inr refl) m) (ruler .halve i j x l h)
 
 -- one of a list whose members are listed by a test
-some-listed : (P : Place → Type 0) (k : Bool) (c : Place) (r : List Place) → k ≡ true → P c → Some P (listedIf k c r)
-unfolding Some listedIf
+some-listed : (P : BlockPlace → Type 0) (k : Bool) (c : BlockPlace) (r : List BlockPlace) → k ≡ true → P c → Some P (placeIf k c r)
+unfolding Some placeIf
 some-listed P k c r e h = rw e (inl h)
 
-some-later : (P : Place → Type 0) (k : Bool) (c : Place) (r : List Place) → Some P r → Some P (listedIf k c r)
-unfolding Some listedIf
+some-later : (P : BlockPlace → Type 0) (k : Bool) (c : BlockPlace) (r : List BlockPlace) → Some P r → Some P (placeIf k c r)
+unfolding Some placeIf
 some-later P true c r h = inr h
 some-later P false c r h = h
 
 module _ {X Y : Type 0} (w h px : ℕ) (LiesX : ℕ → ℕ → X → Type 0) (rulerX : Ruler px LiesX) (LiesY : ℕ → ℕ → Y → Type 0) (rulerY : Ruler px LiesY) where
-  abbrev Held : X → Y → PixelIn w h → Place → Type 0
+  abbrev Held : X → Y → PixelIn w h → BlockPlace → Type 0
   Held = PlaceHolds px LiesX LiesY
 
   quarters-at-hold : (p : PixelIn w h) (x : X) (y : Y) (i k j : ℕ) → LiesX (p .x) px x → LiesY (p .y) px y → Held x y p (placeAt i k (suc j))
@@ -130,7 +130,7 @@ module _ {X Y : Type 0} (w h px : ℕ) (LiesX : ℕ → ℕ → X → Type 0) (r
           (some-listed (Held x y p) _ (placeAt (suc (i + i)) (suc (k + k)) j) _ (listed (suc (i + i)) (suc (k + k)) d e)
           (holds (suc (i + i)) (suc (k + k)) d e))))
 
-  pub quarters-hold : (p : PixelIn w h) (x : X) (y : Y) (b : Place) → zero < b .level → LiesX (p .x) px x → LiesY (p .y) px y → Held x y p b
+  pub quarters-hold : (p : PixelIn w h) (x : X) (y : Y) (b : BlockPlace) → zero < b .level → LiesX (p .x) px x → LiesY (p .y) px y → Held x y p b
       → Some (Held x y p) (quarters px w h b)
   unfolding quarters PlaceHolds coversPixel
   quarters-hold p x y b l a c o = go (b .level - 1) (omega arith)
@@ -169,7 +169,7 @@ module _ {X : Type 0} (w px : ℕ) (Lies : ℕ → ℕ → X → Type 0) (ruler 
       go (inr d) = unfold halvesAt in some-later (StripHolds px Lies x p) _ _ _
           (some-listed (StripHolds px Lies x p) _ (placeAt (suc (i + i)) 0 j) _ (listed (suc (i + i)) d) (holds (suc (i + i)) d))
 
-  pub halves-hold : (p : PixelIn w 1) (x : X) (b : Place) → zero < b .level → Lies (p .x) px x → StripHolds px Lies x p b
+  pub halves-hold : (p : PixelIn w 1) (x : X) (b : BlockPlace) → zero < b .level → Lies (p .x) px x → StripHolds px Lies x p b
       → Some (StripHolds px Lies x p) (halvesInX px w b)
   unfolding halvesInX StripHolds coversPixel
   halves-hold p x b l a o = go (b .level - 1) (omega arith)

@@ -8,11 +8,12 @@ use native.Mathlib.Omega.{arith}
 use lib.Dec.{T, leb, le→leb}
 use lib.ListN.{length, length-append}
 use Rattle.base.proofs.Test.{T→≡, ≡→T}
-use Rattle.theory.specs.Lists.{Every}
-use Rattle.theory.specs.Cells.{Standing, isTrue, givenUp, named, renamed, afterGivingUp}
-use Rattle.theory.specs.Runs.{Snapshot, Event, marks, queues, givesUp, queuedBy, Narrower, AllNarrower, AcceptedSetup, cellAfter, FinishedStep, FinishedSteps, no-step, one-more}
+use Rattle.base.specs.Lists.{Every}
+use Rattle.theory.specs.Cells.{Standing, markedTrue, givenUp, named, renamed, afterGivingUp}
+use Rattle.theory.specs.Runs.{Snapshot, Event, marks, queues, givesUp, queuedBy, Narrower, AllNarrower, AcceptedSetup, cellAfter, FinishedStep}
+use Rattle.theory.specs.Runs.{FinishedSteps, no-step, one-more}
 use Rattle.theory.specs.Demand3.{coversAtPlace, NamesLast}
-use Rattle.theory.proofs.Settled.{Settled, given-settles}
+use Rattle.theory.proofs.Nameless.{Nameless, given-nameless}
 
 module _ {Block Pixel : Type 0} (covers : Block → Pixel → Bool) where
   -- places of a list
@@ -42,30 +43,30 @@ module _ {Block Pixel : Type 0} (covers : Block → Pixel → Bool) where
   place-old (b ∷ q) c (suc i) p e h = place-old q c i p e h
 
   place-every : (q : List Block) (i : ℕ) (p : Pixel) → Every (λ b. (p : Pixel) → T (covers b p)) q → i < length q → T (coversAtPlace covers q i p)
-  unfolding coversAtPlace Every
+  unfolding coversAtPlace
   place-every [] i p a h = absurd (omega arith)
   place-every (b ∷ q) zero p a h = a .0 p
   place-every (b ∷ q) (suc i) p a h = place-every q i p (a .1) (omega arith)
 
   -- what the invariant says of a cell, whatever stands in it
   abbrev pub Sound : ℕ → List Block → Pixel → Standing → Type 0
-  Sound t q p isTrue = Unit {0}
+  Sound t q p markedTrue = Unit {0}
   Sound t q p givenUp = Unit {0}
   Sound t q p (named n) = NamesLast covers t q p n
 
   -- a child is marked
-  mark-sound : (t : ℕ) (q : List Block) (p : Pixel) (k : Bool) (v : Standing) → Sound t q p v → Sound t q p (cond k isTrue v)
+  mark-sound : (t : ℕ) (q : List Block) (p : Pixel) (k : Bool) (v : Standing) → Sound t q p v → Sound t q p (cond k markedTrue v)
   mark-sound t q p true v h = tt
   mark-sound t q p false v h = h
 
   -- a child finds no direction
-  settled-sound : (t : ℕ) (q : List Block) (p : Pixel) (v : Standing) → Settled v → Sound t q p v
-  settled-sound t q p isTrue h = tt
-  settled-sound t q p givenUp h = tt
-  settled-sound t q p (named n) h = absurd h
+  nameless-sound : (t : ℕ) (q : List Block) (p : Pixel) (v : Standing) → Nameless v → Sound t q p v
+  nameless-sound t q p markedTrue h = tt
+  nameless-sound t q p givenUp h = tt
+  nameless-sound t q p (named n) h = absurd h
 
   give-sound : (t : ℕ) (q : List Block) (p : Pixel) (k spare : Bool) (v : Standing) → Sound t q p v → Sound t q p (cond k (afterGivingUp spare v) v)
-  give-sound t q p true spare v h = settled-sound t q p (afterGivingUp spare v) (given-settles spare v)
+  give-sound t q p true spare v h = nameless-sound t q p (afterGivingUp spare v) (given-nameless spare v)
   give-sound t q p false spare v h = h
 
   -- a child is queued, which covers only what the front block covers: it becomes the last that covers the pixel, or covers it not at all
@@ -85,10 +86,10 @@ module _ {Block Pixel : Type 0} (covers : Block → Pixel → Bool) where
           }
 
       go : (k : Bool) → covers c p ≡ k → (v : Standing) → Sound t q p v → Sound t (q ++ (c ∷ [])) p (cond k (renamed t (t + length q) v) v)
-      go true e isTrue o = tt
+      go true e markedTrue o = tt
       go true e givenUp o = tt
       go true e (named n) o = last n e o
-      go false e isTrue o = tt
+      go false e markedTrue o = tt
       go false e givenUp o = tt
       go false e (named n) o = record {
         covering = λ i k. place-left q (c ∷ []) i p (o .covering i k);
@@ -99,7 +100,7 @@ module _ {Block Pixel : Type 0} (covers : Block → Pixel → Bool) where
   -- the front block goes
   take-sound : (t : ℕ) (b : Block) (q : List Block) (p : Pixel) (v : Standing) → Sound t (b ∷ q) p v → Sound (suc t) q p v
   unfolding coversAtPlace
-  take-sound t b q p isTrue h = tt
+  take-sound t b q p markedTrue h = tt
   take-sound t b q p givenUp h = tt
   take-sound t b q p (named n) h = record {
     covering = λ i e. h .covering (suc i) (omega arith);
@@ -125,7 +126,7 @@ module _ {Block Pixel : Type 0} (covers : Block → Pixel → Bool) where
         → Sound t (b ∷ (q ++ queuedBy es)) p (cellAfter covers spare t b (t + length (b ∷ q)) es p v)
     unfolding cellAfter queuedBy AllNarrower coversAtPlace Narrower
     events-sound t b q [] w p v h = rw append-nil h
-    events-sound t b q (marks c ∷ es) w p v h = events-sound t b q es (w .1) p (cond (covers c p) isTrue v) (mark-sound t (b ∷ q) p (covers c p) v h)
+    events-sound t b q (marks c ∷ es) w p v h = events-sound t b q es (w .1) p (cond (covers c p) markedTrue v) (mark-sound t (b ∷ q) p (covers c p) v h)
     events-sound t b q (queues c ∷ es) w p v h =
         let e : t + length (b ∷ (q ++ (c ∷ []))) ≡ suc (t + length (b ∷ q)) = omega (arith, length-append q (c ∷ [])) in
         rw (e, append-assoc q (c ∷ []) (queuedBy es)) at (events-sound t b (q ++ (c ∷ [])) es (w .1) p (cond (covers c p) (renamed t (t + length (b ∷ q)) v) v)

@@ -1,7 +1,7 @@
 -- What is proved. Theorems is the reader's entry: each promise under its sentence.
 pub mod Theorems
 -- demand 3
-pub mod Settled
+pub mod Nameless
 pub mod StandingLaws
 pub mod Invariant
 pub mod FalseRule
@@ -17,7 +17,7 @@ pub mod ChildPlaces
 pub mod PlaceCount
 pub mod Bounds
 -- the colours, and the covering laws
-pub mod TurnLaws
+pub mod JudgementLaws
 pub mod TrueMeansYes
 pub mod WhiteMeansNo
 pub mod Decided

@@ -11,9 +11,8 @@ use native.Mathlib.Omega.{arith}
 use lib.Dec.{ltb}
 use borrow.Author.Tests.{lt-ltb, le-ltb}
 use Rattle.base.proofs.AxisLaws.{places-suc, places-one, begins-inside, counted-begins, half-begins}
-use Rattle.theory.specs.Lists.{sumOver}
-use Rattle.theory.specs.Levels.{Place, placeAt, treeSize, costAbove, sumTo, placesAlong, placesAbove, stripPlacesAbove}
-use Rattle.theory.specs.Shapes.{beginsIn, HalfOf, isListed, listedIf, quartersAt, quarters, halvesAt, halvesInX}
+use Rattle.theory.specs.Levels.{BlockPlace, placeAt, treeSize, costAbove, sumTo, placesAlong, placesAbove, stripPlacesAbove, sumOver}
+use Rattle.theory.specs.Shapes.{beginsIn, HalfOf, isListed, placeIf, quartersAt, quarters, halvesAt, halvesInX}
 use Rattle.theory.proofs.Sums.{upTo, sum-cong, sum-add, sum-const, pairing, grid, upToBoth, grid-cong, grid-suc, four, four-by-four}
 
 -- the halves that are listed of an index inside the side are those that are counted
@@ -25,9 +24,9 @@ listed-counted px w j i c h l = elim (decLe px j) [
 ]
 
 -- what is listed, in a sum
-listed-sum : (f : Place → ℕ) (k l : Bool) (c : Place) (r : List Place)
-    → sumOver f (listedIf (k && l) c r) ≡ cond l (cond k (f c) zero) zero + sumOver f r
-unfolding sumOver listedIf
+listed-sum : (f : BlockPlace → ℕ) (k l : Bool) (c : BlockPlace) (r : List BlockPlace)
+    → sumOver f (placeIf (k && l) c r) ≡ cond l (cond k (f c) zero) zero + sumOver f r
+unfolding sumOver placeIf
 listed-sum f true true c r = refl
 listed-sum f true false c r = omega arith
 listed-sum f false true c r = omega arith
@@ -36,7 +35,7 @@ listed-sum f false false c r = omega arith
 -- ---- squares
 
 module _ (px w h : ℕ) where
-  quarters-sum : (f : Place → ℕ) (x y j : ℕ) → x < placesAlong (w * 2 ^ px) (suc j) → y < placesAlong (h * 2 ^ px) (suc j)
+  quarters-sum : (f : BlockPlace → ℕ) (x y j : ℕ) → x < placesAlong (w * 2 ^ px) (suc j) → y < placesAlong (h * 2 ^ px) (suc j)
       → sumOver f (quartersAt px w h x y (suc j)) ≡ four (placesAlong (w * 2 ^ px) j) (placesAlong (h * 2 ^ px) j) (λ u v. f (placeAt u v j)) x y
   unfolding quartersAt four upToBoth upTo HalfOf sumOver
   quarters-sum f x y j p q =
@@ -101,18 +100,18 @@ module _ (px w h : ℕ) where
       let e : L + n - L ≡ n = omega arith in
       rw e (sym (one (treeSize (quarters px w h) n)) ∙ (rw (places-one (w * 2 ^ px) (L + n) w0 wk, places-one (h * 2 ^ px) (L + n) h0 hk) at (all-trees L n)))
     where
-      one : (f : Place → ℕ) → grid 1 1 (λ x y. f (placeAt x y (L + n))) ≡ f (placeAt 0 0 (L + n))
+      one : (f : BlockPlace → ℕ) → grid 1 1 (λ x y. f (placeAt x y (L + n))) ≡ f (placeAt 0 0 (L + n))
       one f = unfold grid sumTo in omega arith
 
 -- ---- strips
 
-listed-sum-one : (f : Place → ℕ) (k : Bool) (c : Place) (r : List Place) → sumOver f (listedIf k c r) ≡ cond k (f c) zero + sumOver f r
-unfolding sumOver listedIf
+listed-sum-one : (f : BlockPlace → ℕ) (k : Bool) (c : BlockPlace) (r : List BlockPlace) → sumOver f (placeIf k c r) ≡ cond k (f c) zero + sumOver f r
+unfolding sumOver placeIf
 listed-sum-one f true c r = refl
 listed-sum-one f false c r = omega arith
 
 module _ (px w : ℕ) where
-  halves-sum : (f : Place → ℕ) (x j : ℕ) → x < placesAlong (w * 2 ^ px) (suc j)
+  halves-sum : (f : BlockPlace → ℕ) (x j : ℕ) → x < placesAlong (w * 2 ^ px) (suc j)
       → sumOver f (halvesAt px w x (suc j)) ≡ upTo (placesAlong (w * 2 ^ px) j) (λ u. f (placeAt u 0 j)) (x + x) + upTo (placesAlong (w * 2 ^ px) j)
       (λ u. f (placeAt u 0 j)) (suc (x + x))
   unfolding halvesAt upTo HalfOf sumOver
@@ -153,5 +152,5 @@ module _ (px w : ℕ) where
       let e : L + n - L ≡ n = omega arith in
       rw e (sym (one (treeSize (halvesInX px w) n)) ∙ (rw (places-one (w * 2 ^ px) (L + n) w0 k) at (strip-trees L n)))
     where
-      one : (f : Place → ℕ) → sumTo 1 (λ x. f (placeAt x 0 (L + n))) ≡ f (placeAt 0 0 (L + n))
+      one : (f : BlockPlace → ℕ) → sumTo 1 (λ x. f (placeAt x 0 (L + n))) ≡ f (placeAt 0 0 (L + n))
       one f = unfold sumTo in omega arith

@@ -8,91 +8,92 @@ use mathlib.Core.List.{List, [], _∷_, _++_, map, map-append, Sublistᴰ, Subli
 use Prim.Native.Nat.{ℕ, zero, suc, _+_, _-_, _≤_, _<_}
 use native.Mathlib.Decide.{decLt}
 use native.Mathlib.Omega.{arith}
-use Rattle.theory.specs.Lists.{Every, sumOver}
 use Rattle.theory.specs.Runs.{Snapshot, queuedBy, FinishedStep, FinishedSteps, no-step, one-more, EveryStep}
-use Rattle.theory.specs.Levels.{Place, treeSize, costAbove, QueuesChildren, NeverRise, OnTwoLevels}
-use Rattle.theory.proofs.ListLaws.{every-append, every-mono, sum-append, sum-same, fewer-sum, fewer-every}
+use Rattle.theory.specs.Levels.{BlockPlace, treeSize, costAbove, QueuesChildren, NeverRise, OnTwoLevels, sumOver}
+use Rattle.base.specs.Lists.{Every}
+use Rattle.base.proofs.ListLaws.{every-append, every-also}
+use Rattle.theory.proofs.ListLaws.{sum-append, sum-same, fewer-sum, fewer-every}
 
 -- the queue's levels: first some blocks of level m + 1, then the rest of level m
-unfoldable pub TwoLevels : ℕ → List Place → Type 0
+unfoldable pub TwoLevels : ℕ → List BlockPlace → Type 0
 TwoLevels m [] = Unit {0}
 TwoLevels m (b ∷ q) = ((b .level ≡ suc m) × TwoLevels m q) ⊎ ((b .level ≡ m) × Every (λ c. c .level ≡ m) q)
 
 -- more of level m behind
-two-behind : (m : ℕ) (q new : List Place) → TwoLevels m q → Every (λ c. c .level ≡ m) new → TwoLevels m (q ++ new)
-unfolding TwoLevels Every
+two-behind : (m : ℕ) (q new : List BlockPlace) → TwoLevels m q → Every (λ c. c .level ≡ m) new → TwoLevels m (q ++ new)
+unfolding TwoLevels
 two-behind m [] [] h a = tt
 two-behind m [] (x ∷ new) h a = inr (a .0, a .1)
 two-behind m (b ∷ q) new (inl h) a = inl (h .0, two-behind m q new (h .1) a)
 two-behind m (b ∷ q) new (inr h) a = inr (h .0, every-append (λ c. c .level ≡ m) q new (h .1) a)
 
 -- the first of level m behind those of level m + 1
-two-anew : (m : ℕ) (q new : List Place) → Every (λ c. c .level ≡ suc m) q → Every (λ c. c .level ≡ m) new → TwoLevels m (q ++ new)
-unfolding TwoLevels Every
+two-anew : (m : ℕ) (q new : List BlockPlace) → Every (λ c. c .level ≡ suc m) q → Every (λ c. c .level ≡ m) new → TwoLevels m (q ++ new)
+unfolding TwoLevels
 two-anew m [] [] h a = tt
 two-anew m [] (x ∷ new) h a = inr (a .0, a .1)
 two-anew m (b ∷ q) new h a = inl (h .0, two-anew m q new (h .1) a)
 
-two-flat : (m : ℕ) (q : List Place) → Every (λ c. c .level ≡ m) q → TwoLevels m q
-unfolding TwoLevels Every
+two-flat : (m : ℕ) (q : List BlockPlace) → Every (λ c. c .level ≡ m) q → TwoLevels m q
+unfolding TwoLevels
 two-flat m [] a = tt
 two-flat m (c ∷ q) a = inr (a .0, a .1)
 
-two-under : (m : ℕ) (q : List Place) → TwoLevels m q → Every (λ c. c .level ≤ suc m) q
-unfolding TwoLevels Every
+two-under : (m : ℕ) (q : List BlockPlace) → TwoLevels m q → Every (λ c. c .level ≤ suc m) q
+unfolding TwoLevels
 two-under m [] t = tt
 two-under m (c ∷ q) (inl t) = (omega (arith, t .0), two-under m q (t .1))
-two-under m (c ∷ q) (inr t) = (omega (arith, t .0), every-mono (λ d. d .level ≡ m) (λ d. d .level ≤ suc m) q (λ d e. omega arith) (t .1))
+two-under m (c ∷ q) (inr t) = (omega (arith, t .0), every-also (λ d. d .level ≡ m) (λ d. d .level ≤ suc m) (λ d e. omega arith) q (t .1))
 
-two-front : (m : ℕ) (b : Place) (q : List Place) → TwoLevels m (b ∷ q) → Every (λ c. c .level ≤ b .level) q
+two-front : (m : ℕ) (b : BlockPlace) (q : List BlockPlace) → TwoLevels m (b ∷ q) → Every (λ c. c .level ≤ b .level) q
 unfolding TwoLevels
-two-front m b q (inl t) = every-mono (λ c. c .level ≤ suc m) (λ c. c .level ≤ b .level) q (λ c e. omega (arith, t .0)) (two-under m q (t .1))
-two-front m b q (inr t) = every-mono (λ c. c .level ≡ m) (λ c. c .level ≤ b .level) q (λ c e. omega (arith, t .0)) (t .1)
+two-front m b q (inl t) = every-also (λ c. c .level ≤ suc m) (λ c. c .level ≤ b .level) (λ c e. omega (arith, t .0)) q (two-under m q (t .1))
+two-front m b q (inr t) = every-also (λ c. c .level ≡ m) (λ c. c .level ≤ b .level) (λ c e. omega (arith, t .0)) q (t .1)
 
-flat-never-rise : (m : ℕ) (q : List Place) → Every (λ c. c .level ≡ m) q → NeverRise q
-unfolding NeverRise Every
+flat-never-rise : (m : ℕ) (q : List BlockPlace) → Every (λ c. c .level ≡ m) q → NeverRise q
+unfolding NeverRise
 flat-never-rise m [] a = tt
-flat-never-rise m (b ∷ q) a = (every-mono (λ c. c .level ≡ m) (λ c. c .level ≤ b .level) q (λ c e. omega (arith, a .0)) (a .1), flat-never-rise m q (a .1))
+flat-never-rise m (b ∷ q) a = (every-also (λ c. c .level ≡ m) (λ c. c .level ≤ b .level) (λ c e. omega (arith, a .0)) q (a .1), flat-never-rise m q (a .1))
 
-two-never-rise : (m : ℕ) (q : List Place) → TwoLevels m q → NeverRise q
+two-never-rise : (m : ℕ) (q : List BlockPlace) → TwoLevels m q → NeverRise q
 unfolding NeverRise TwoLevels
 two-never-rise m [] t = tt
 two-never-rise m (b ∷ q) (inl t) = (two-front m b q (inl t), two-never-rise m q (t .1))
 two-never-rise m (b ∷ q) (inr t) = (two-front m b q (inr t), flat-never-rise m q (t .1))
 
-two-neighbours : (m : ℕ) (q : List Place) → TwoLevels m q → OnTwoLevels m q
-unfolding TwoLevels OnTwoLevels Every
+two-neighbours : (m : ℕ) (q : List BlockPlace) → TwoLevels m q → OnTwoLevels m q
+unfolding TwoLevels OnTwoLevels
 two-neighbours m [] t = tt
 two-neighbours m (b ∷ q) (inl t) = (inr (t .0), two-neighbours m q (t .1))
-two-neighbours m (b ∷ q) (inr t) = (inl (t .0), every-mono (λ c. c .level ≡ m) (λ c. (c .level ≡ m) ⊎ (c .level ≡ suc m)) q (λ c e. inl e) (t .1))
+two-neighbours m (b ∷ q) (inr t) = (inl (t .0), every-also (λ c. c .level ≡ m) (λ c. (c .level ≡ m) ⊎ (c .level ≡ suc m)) (λ c e. inl e) q (t .1))
 
-module _ (cut : Place → List Place) (lower : (b : Place) → Every (λ c. suc (c .level) ≡ b .level) (cut b)) where
+module _ (cut : BlockPlace → List BlockPlace) (lower : (b : BlockPlace) → Every (λ c. suc (c .level) ≡ b .level) (cut b)) where
   -- what is queued of a place lies one level lower
-  queued-lower : (m : ℕ) (b : Place) (new : List Place) → Sublistᴰ new (cut b) → b .level ≡ suc m → Every (λ c. c .level ≡ m) new
+  queued-lower : (m : ℕ) (b : BlockPlace) (new : List BlockPlace) → Sublistᴰ new (cut b) → b .level ≡ suc m → Every (λ c. c .level ≡ m) new
   queued-lower m b new s e =
-      every-mono (λ c. suc (c .level) ≡ b .level) (λ c. c .level ≡ m) new (λ c f. omega arith) (fewer-every (λ c. suc (c .level) ≡ b .level) s (lower b))
+      every-also (λ c. suc (c .level) ≡ b .level) (λ c. c .level ≡ m) (λ c f. omega arith) new (fewer-every (λ c. suc (c .level) ≡ b .level) s (lower b))
 
   -- under the lowest level there is nothing
-  queued-none : (b : Place) (new : List Place) → Sublistᴰ new (cut b) → b .level ≡ zero → Every (λ c. c .level ≡ zero) new
+  queued-none : (b : BlockPlace) (new : List BlockPlace) → Sublistᴰ new (cut b) → b .level ≡ zero → Every (λ c. c .level ≡ zero) new
   queued-none b new s e =
-      every-mono (λ c. suc (c .level) ≡ b .level) (λ c. c .level ≡ zero) new (λ c f. omega arith) (fewer-every (λ c. suc (c .level) ≡ b .level) s (lower b))
+      every-also (λ c. suc (c .level) ≡ b .level) (λ c. c .level ≡ zero) (λ c f. omega arith) new (fewer-every (λ c. suc (c .level) ≡ b .level) s (lower b))
 
-  two-step : (m : ℕ) (b : Place) (q new : List Place) → Sublistᴰ new (cut b) → TwoLevels m (b ∷ q) → (k : ℕ) × TwoLevels k (q ++ new)
+  two-step : (m : ℕ) (b : BlockPlace) (q new : List BlockPlace) → Sublistᴰ new (cut b) → TwoLevels m (b ∷ q) → (k : ℕ) × TwoLevels k (q ++ new)
   unfolding TwoLevels
   two-step m b q new s (inl h) = (m, two-behind m q new (h .1) (queued-lower m b new s (h .0)))
   two-step zero b q new s (inr h) = (zero, two-behind zero q new (two-flat zero q (h .1)) (queued-none b new s (h .0)))
   two-step (suc m) b q new s (inr h) = (m, two-anew m q new (h .1) (queued-lower m b new s (h .0)))
 
   -- the children of a place above L cost less than it does
-  pub children-cost-less : (L : ℕ) (b : Place) (new : List Place) → Sublistᴰ new (cut b) → L < b .level
+  pub children-cost-less : (L : ℕ) (b : BlockPlace) (new : List BlockPlace) → Sublistᴰ new (cut b) → L < b .level
       → sumOver (costAbove cut L) new < costAbove cut L b
   unfolding costAbove treeSize
   children-cost-less L b new s h = go (b .level - L - 1) (omega arith)
     where
       one-less : (n : ℕ) → b .level - L ≡ suc n → Every (λ c. costAbove cut L c ≡ treeSize cut n c) (cut b)
       one-less n e =
-          every-mono (λ c. suc (c .level) ≡ b .level) (λ c. costAbove cut L c ≡ treeSize cut n c) (cut b)
-          (λ c f. (let g : c .level - L ≡ n = omega arith in rw g)) (lower b)
+          every-also (λ c. suc (c .level) ≡ b .level) (λ c. costAbove cut L c ≡ treeSize cut n c) (λ c f. (let g : c .level - L ≡ n = omega arith in rw g))
+          (cut b) (lower b)
 
       go : (n : ℕ) → b .level - L ≡ suc n → sumOver (costAbove cut L) new < treeSize cut (b .level - L) b
       go n e =
@@ -101,8 +102,8 @@ module _ (cut : Place → List Place) (lower : (b : Place) → Every (λ c. suc 
           rw e (omega arith)
 
   -- a place above L costs something, so where nothing costs anything nothing is above L
-  cost-free : (L : ℕ) (q : List Place) → sumOver (costAbove cut L) q ≡ zero → Every (λ c. c .level ≤ L) q
-  unfolding sumOver Every
+  cost-free : (L : ℕ) (q : List BlockPlace) → sumOver (costAbove cut L) q ≡ zero → Every (λ c. c .level ≤ L) q
+  unfolding sumOver
   cost-free L [] e = tt
   cost-free L (b ∷ q) e = (
     elim (decLt L (b .level)) as (λ _. b .level ≤ L) [
@@ -113,25 +114,25 @@ module _ (cut : Place → List Place) (lower : (b : Place) → Every (λ c. suc 
   )
 
   -- after n steps nothing is above L any more, or the cost has gone down by n
-  Sinking : ℕ → ℕ → ℕ → List Place → Type 0
+  Sinking : ℕ → ℕ → ℕ → List BlockPlace → Type 0
   Sinking L total n q = Every (λ c. c .level ≤ L) q ⊎ (sumOver (costAbove cut L) q + n ≤ total)
 
-  sinking-step : (L total n m : ℕ) (b : Place) (q new : List Place) → Sublistᴰ new (cut b) → TwoLevels m (b ∷ q) → Sinking L total n (b ∷ q)
+  sinking-step : (L total n m : ℕ) (b : BlockPlace) (q new : List BlockPlace) → Sublistᴰ new (cut b) → TwoLevels m (b ∷ q) → Sinking L total n (b ∷ q)
       → Sinking L total (suc n) (q ++ new)
-  unfolding Sinking sumOver Every
+  unfolding Sinking sumOver
   sinking-step L total n m b q new s t f = elim (decLt L (b .level)) [ yes h ↦ above h f | no h ↦ inl (below (omega arith)) ]
     where
       below : b .level ≤ L → Every (λ c. c .level ≤ L) (q ++ new)
       below h = every-append (λ c. c .level ≤ L) q new
-          (every-mono (λ c. c .level ≤ b .level) (λ c. c .level ≤ L) q (λ c e. omega arith) (two-front m b q t))
-          (every-mono (λ c. suc (c .level) ≡ b .level) (λ c. c .level ≤ L) new (λ c e. omega arith) (fewer-every (λ c. suc (c .level) ≡ b .level) s (lower b)))
+          (every-also (λ c. c .level ≤ b .level) (λ c. c .level ≤ L) (λ c e. omega arith) q (two-front m b q t))
+          (every-also (λ c. suc (c .level) ≡ b .level) (λ c. c .level ≤ L) (λ c e. omega arith) new (fewer-every (λ c. suc (c .level) ≡ b .level) s (lower b)))
 
       above : L < b .level → Every (λ c. c .level ≤ L) (b ∷ q) ⊎ (sumOver (costAbove cut L) (b ∷ q) + n ≤ total)
           → Every (λ c. c .level ≤ L) (q ++ new) ⊎ (sumOver (costAbove cut L) (q ++ new) + suc n ≤ total)
       above h (inl a) = absurd (omega (arith, a .0))
       above h (inr e) = let r = children-cost-less L b new s h in inr (omega (arith, sum-append (costAbove cut L) q new))
 
-  module _ {Block Pixel : Type 0} (covers : Block → Pixel → Bool) (spare : Bool) (placeOf : Block → Place) where
+  module _ {Block Pixel : Type 0} (covers : Block → Pixel → Bool) (spare : Bool) (placeOf : Block → BlockPlace) where
     abbrev Queues : (s s′ : Snapshot Block Pixel) → FinishedStep covers spare s s′ → Type 0
     Queues = QueuesChildren covers spare placeOf cut
 
@@ -177,7 +178,7 @@ module _ (cut : Place → List Place) (lower : (b : Place) → Every (λ c. suc 
         (sinking-steps L total m t f r (c .0)) st (c .1)
 
     start-levels : (q : List Block) (root : Block) → q ≡ root ∷ [] → TwoLevels (placeOf root .level) (map placeOf q)
-    unfolding TwoLevels Every
+    unfolding TwoLevels
     start-levels q root e = rw e (inr (refl, tt))
 
     -- from one block, the steps of its cost later nothing is above L

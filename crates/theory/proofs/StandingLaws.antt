@@ -10,15 +10,15 @@ use lib.Dec.{T, leb}
 use lib.ListN.{length}
 use borrow.Author.Tests.{leb-false, lt-leb}
 use Rattle.base.proofs.Test.{T→≡, ≡→T, ¬T→≡}
-use Rattle.theory.specs.Cells.{Standing, isTrue, givenUp, named, readsTrue, readsFalse, readsUncertain, standingReads, renamed, afterGivingUp}
+use Rattle.theory.specs.Cells.{Standing, markedTrue, givenUp, named, readsTrue, readsFalse, readsUncertain, standingReads, renamed, afterGivingUp}
 use Rattle.theory.specs.Runs.{Snapshot, Event, marks, queues, givesUp, Narrower, AllNarrower, cellAfter, FinishedStep}
 use Rattle.theory.specs.Demand3.{anyGivesUp, AllWhole, WholePicture}
-use Rattle.theory.proofs.Settled.{Settled, given-settles}
+use Rattle.theory.proofs.Nameless.{Nameless, given-nameless}
 
 -- a cell reads False exactly if it names a block that was taken
 pub reads-false : (t : ℕ) (v : Standing) → (standingReads t v ≡ readsFalse) ↔ ((n : ℕ) × (v ≡ named n) × (n < t))
 unfolding standingReads
-reads-false t isTrue = ((λ e. absurd (let z : _≡_ {A = ℕ} 0 1 = cc in omega arith)), (λ (n, e, h). absurd (let z : _≡_ {A = ℕ} 0 1 = cc in omega arith)))
+reads-false t markedTrue = ((λ e. absurd (let z : _≡_ {A = ℕ} 0 1 = cc in omega arith)), (λ (n, e, h). absurd (let z : _≡_ {A = ℕ} 0 1 = cc in omega arith)))
 reads-false t givenUp = ((λ e. absurd (let z : _≡_ {A = ℕ} 0 1 = cc in omega arith)), (λ (n, e, h). absurd (let z : _≡_ {A = ℕ} 0 1 = cc in omega arith)))
 reads-false t (named n) = (go (leb t n) refl, back)
   where
@@ -30,39 +30,39 @@ reads-false t (named n) = (go (leb t n) refl, back)
     back (m, e, h) = let f : n ≡ m = cc in rw (lt-leb t n (omega arith))
 
 -- and True exactly if it is True
-pub reads-true : (t : ℕ) (v : Standing) → (standingReads t v ≡ readsTrue) ↔ (v ≡ isTrue)
+pub reads-true : (t : ℕ) (v : Standing) → (standingReads t v ≡ readsTrue) ↔ (v ≡ markedTrue)
 unfolding standingReads
-reads-true t isTrue = (λ e. refl, λ e. refl)
+reads-true t markedTrue = (λ e. refl, λ e. refl)
 reads-true t givenUp = (λ e. cc, λ e. cc)
 reads-true t (named n) = (go (leb t n), λ e. cc)
   where
-    go : (k : Bool) → cond k readsUncertain readsFalse ≡ readsTrue → named n ≡ isTrue
+    go : (k : Bool) → cond k readsUncertain readsFalse ≡ readsTrue → named n ≡ markedTrue
     go true e = cc
     go false e = cc
 
-settled-mark : (k : Bool) (v : Standing) → Settled v → Settled (cond k isTrue v)
-settled-mark true v h = tt
-settled-mark false v h = h
+nameless-mark : (k : Bool) (v : Standing) → Nameless v → Nameless (cond k markedTrue v)
+nameless-mark true v h = tt
+nameless-mark false v h = h
 
-settled-queue : (k : Bool) (t m : ℕ) (v : Standing) → Settled v → Settled (cond k (renamed t m v) v)
+nameless-queue : (k : Bool) (t m : ℕ) (v : Standing) → Nameless v → Nameless (cond k (renamed t m v) v)
 unfolding renamed
-settled-queue true t m isTrue h = tt
-settled-queue true t m givenUp h = tt
-settled-queue true t m (named n) h = absurd h
-settled-queue false t m v h = h
+nameless-queue true t m markedTrue h = tt
+nameless-queue true t m givenUp h = tt
+nameless-queue true t m (named n) h = absurd h
+nameless-queue false t m v h = h
 
-settled-give : (k spare : Bool) (v : Standing) → Settled v → Settled (cond k (afterGivingUp spare v) v)
-settled-give true spare v h = given-settles spare v
-settled-give false spare v h = h
+nameless-give : (k spare : Bool) (v : Standing) → Nameless v → Nameless (cond k (afterGivingUp spare v) v)
+nameless-give true spare v h = given-nameless spare v
+nameless-give false spare v h = h
 
-given-mark : (k : Bool) (v : Standing) → cond k isTrue v ≡ givenUp → v ≡ givenUp
+given-mark : (k : Bool) (v : Standing) → cond k markedTrue v ≡ givenUp → v ≡ givenUp
 given-mark true v e = cc
 given-mark false v e = e
 
 given-queue : (k : Bool) (t m : ℕ) (v : Standing) → cond k (renamed t m v) v ≡ givenUp → v ≡ givenUp
 unfolding renamed
 given-queue false t m v e = e
-given-queue true t m isTrue e = e
+given-queue true t m markedTrue e = e
 given-queue true t m givenUp e = e
 given-queue true t m (named n) e = go (leb t n) e
   where
@@ -70,12 +70,12 @@ given-queue true t m (named n) e = go (leb t n) e
     go true f = cc
     go false f = f
 
-true-queue : (k : Bool) (t m : ℕ) → cond k (renamed t m isTrue) isTrue ≡ isTrue
+true-queue : (k : Bool) (t m : ℕ) → cond k (renamed t m markedTrue) markedTrue ≡ markedTrue
 unfolding renamed
 true-queue true t m = refl
 true-queue false t m = refl
 
-true-mark : (k : Bool) → cond k isTrue isTrue ≡ isTrue
+true-mark : (k : Bool) → cond k markedTrue markedTrue ≡ markedTrue
 true-mark true = refl
 true-mark false = refl
 
@@ -89,24 +89,24 @@ module _ {Block Pixel : Type 0} (covers : Block → Pixel → Bool) (spare : Boo
   untouched t b m (queues c ∷ es) p v w h = rw (¬T→≡ (covers c p) (λ k. h (w .0 p k))) (untouched t b (suc m) es p v (w .1) h)
   untouched t b m (givesUp ∷ es) p v w h = rw (¬T→≡ (covers b p) h) (untouched t b m es p v w h)
 
-  -- what is settled stays settled
-  pub settled-stays : (t : ℕ) (b : Block) (m : ℕ) (es : List (Event Block)) (p : Pixel) (v : Standing) → Settled v
-      → Settled (cellAfter covers spare t b m es p v)
+  -- what names no block never names one again
+  pub nameless-stays : (t : ℕ) (b : Block) (m : ℕ) (es : List (Event Block)) (p : Pixel) (v : Standing) → Nameless v
+      → Nameless (cellAfter covers spare t b m es p v)
   unfolding cellAfter
-  settled-stays t b m [] p v h = h
-  settled-stays t b m (marks c ∷ es) p v h = settled-stays t b m es p (cond (covers c p) isTrue v) (settled-mark (covers c p) v h)
-  settled-stays t b m (queues c ∷ es) p v h = settled-stays t b (suc m) es p (cond (covers c p) (renamed t m v) v) (settled-queue (covers c p) t m v h)
-  settled-stays t b m (givesUp ∷ es) p v h = settled-stays t b m es p (cond (covers b p) (afterGivingUp spare v) v) (settled-give (covers b p) spare v h)
+  nameless-stays t b m [] p v h = h
+  nameless-stays t b m (marks c ∷ es) p v h = nameless-stays t b m es p (cond (covers c p) markedTrue v) (nameless-mark (covers c p) v h)
+  nameless-stays t b m (queues c ∷ es) p v h = nameless-stays t b (suc m) es p (cond (covers c p) (renamed t m v) v) (nameless-queue (covers c p) t m v h)
+  nameless-stays t b m (givesUp ∷ es) p v h = nameless-stays t b m es p (cond (covers b p) (afterGivingUp spare v) v) (nameless-give (covers b p) spare v h)
 
-  -- a step that gives up settles all that its block covers
-  giving-up-settles : (t : ℕ) (b : Block) (m : ℕ) (es : List (Event Block)) (p : Pixel) (v : Standing) → T (anyGivesUp es) → T (covers b p)
-      → Settled (cellAfter covers spare t b m es p v)
+  -- after a step that gives up no cell that its block covers names a block
+  giving-up-unnames : (t : ℕ) (b : Block) (m : ℕ) (es : List (Event Block)) (p : Pixel) (v : Standing) → T (anyGivesUp es) → T (covers b p)
+      → Nameless (cellAfter covers spare t b m es p v)
   unfolding cellAfter anyGivesUp
-  giving-up-settles t b m [] p v f k = absurd f
-  giving-up-settles t b m (marks c ∷ es) p v f k = giving-up-settles t b m es p (cond (covers c p) isTrue v) f k
-  giving-up-settles t b m (queues c ∷ es) p v f k = giving-up-settles t b (suc m) es p (cond (covers c p) (renamed t m v) v) f k
-  giving-up-settles t b m (givesUp ∷ es) p v f k =
-      settled-stays t b m es p (cond (covers b p) (afterGivingUp spare v) v) (rw (T→≡ (covers b p) k) (given-settles spare v))
+  giving-up-unnames t b m [] p v f k = absurd f
+  giving-up-unnames t b m (marks c ∷ es) p v f k = giving-up-unnames t b m es p (cond (covers c p) markedTrue v) f k
+  giving-up-unnames t b m (queues c ∷ es) p v f k = giving-up-unnames t b (suc m) es p (cond (covers c p) (renamed t m v) v) f k
+  giving-up-unnames t b m (givesUp ∷ es) p v f k =
+      nameless-stays t b m es p (cond (covers b p) (afterGivingUp spare v) v) (rw (T→≡ (covers b p) k) (given-nameless spare v))
 
   -- a cell that is given up after the step was so before it, or the step gave it up
   given-up-by : (t : ℕ) (b : Block) (m : ℕ) (es : List (Event Block)) (p : Pixel) (v : Standing) → cellAfter covers spare t b m es p v ≡ givenUp
@@ -114,7 +114,7 @@ module _ {Block Pixel : Type 0} (covers : Block → Pixel → Bool) (spare : Boo
   unfolding cellAfter anyGivesUp
   given-up-by t b m [] p v e = inl e
   given-up-by t b m (marks c ∷ es) p v e =
-      ⊎-elim (λ h. inl (given-mark (covers c p) v h)) (λ h. inr h) (given-up-by t b m es p (cond (covers c p) isTrue v) e)
+      ⊎-elim (λ h. inl (given-mark (covers c p) v h)) (λ h. inr h) (given-up-by t b m es p (cond (covers c p) markedTrue v) e)
   given-up-by t b m (queues c ∷ es) p v e =
       ⊎-elim (λ h. inl (given-queue (covers c p) t m v h)) (λ h. inr h) (given-up-by t b (suc m) es p (cond (covers c p) (renamed t m v) v) e)
   given-up-by t b m (givesUp ∷ es) p v e = go (covers b p) refl e (λ u. given-up-by t b m es p u)
@@ -126,7 +126,7 @@ module _ {Block Pixel : Type 0} (covers : Block → Pixel → Bool) (spare : Boo
       go false f e rec = ⊎-elim (λ h. inl h) (λ h. inr (tt, h .1)) (rec v e)
 
   -- True stays True in the sparing mode,
-  spared : spare ≡ true → (t : ℕ) (b : Block) (m : ℕ) (es : List (Event Block)) (p : Pixel) → cellAfter covers spare t b m es p isTrue ≡ isTrue
+  spared : spare ≡ true → (t : ℕ) (b : Block) (m : ℕ) (es : List (Event Block)) (p : Pixel) → cellAfter covers spare t b m es p markedTrue ≡ markedTrue
   unfolding cellAfter afterGivingUp
   spared h t b m [] p = refl
   spared h t b m (marks c ∷ es) p = rw true-mark (spared h t b m es p)
@@ -135,7 +135,7 @@ module _ {Block Pixel : Type 0} (covers : Block → Pixel → Bool) (spare : Boo
 
   -- and in either where the step does not give up
   unharmed : (t : ℕ) (b : Block) (m : ℕ) (es : List (Event Block)) (p : Pixel) → anyGivesUp es ≡ false
-      → cellAfter covers spare t b m es p isTrue ≡ isTrue
+      → cellAfter covers spare t b m es p markedTrue ≡ markedTrue
   unfolding cellAfter anyGivesUp
   unharmed t b m [] p h = refl
   unharmed t b m (marks c ∷ es) p h = rw true-mark (unharmed t b m es p h)
@@ -148,7 +148,7 @@ module _ {Block Pixel : Type 0} (covers : Block → Pixel → Bool) (spare : Boo
       → cellAfter covers spare t b m es p v ≡ cellAfter covers spare t b m es q v
   unfolding cellAfter AllWhole
   whole-alike p q t b m [] v f a = refl
-  whole-alike p q t b m (marks c ∷ es) v f a = rw (T→≡ (covers c p) (a .0 p), T→≡ (covers c q) (a .0 q)) (whole-alike p q t b m es isTrue f (a .1))
+  whole-alike p q t b m (marks c ∷ es) v f a = rw (T→≡ (covers c p) (a .0 p), T→≡ (covers c q) (a .0 q)) (whole-alike p q t b m es markedTrue f (a .1))
   whole-alike p q t b m (queues c ∷ es) v f a = rw (T→≡ (covers c p) (a .0 p), T→≡ (covers c q) (a .0 q))
       (whole-alike p q t b (suc m) es (renamed t m v) f (a .1))
   whole-alike p q t b m (givesUp ∷ es) v f a = rw (T→≡ (covers b p) (f p), T→≡ (covers b q) (f q)) (whole-alike p q t b m es (afterGivingUp spare v) f a)
@@ -158,19 +158,19 @@ module _ {Block Pixel : Type 0} (covers : Block → Pixel → Bool) (spare : Boo
   pub step-untouched : (p : Pixel) → ¬ T (covers (st .front) p) → s′ .cells p ≡ s .cells p
   step-untouched p h = st .cells′ p ∙ untouched covers spare (s .taken) (st .front) (s .taken + length (s .queue)) (st .events) p (s .cells p) (st .narrower) h
 
-  pub step-settled : (p : Pixel) → Settled (s .cells p) → Settled (s′ .cells p)
-  step-settled p h = rw (st .cells′ p) (settled-stays covers spare (s .taken) (st .front) (s .taken + length (s .queue)) (st .events) p (s .cells p) h)
+  pub step-nameless : (p : Pixel) → Nameless (s .cells p) → Nameless (s′ .cells p)
+  step-nameless p h = rw (st .cells′ p) (nameless-stays covers spare (s .taken) (st .front) (s .taken + length (s .queue)) (st .events) p (s .cells p) h)
 
-  pub step-settles : (p : Pixel) → T (anyGivesUp (st .events)) → T (covers (st .front) p) → Settled (s′ .cells p)
-  step-settles p f k = rw (st .cells′ p) (giving-up-settles covers spare (s .taken) (st .front) (s .taken + length (s .queue)) (st .events) p (s .cells p) f k)
+  pub step-unnames : (p : Pixel) → T (anyGivesUp (st .events)) → T (covers (st .front) p) → Nameless (s′ .cells p)
+  step-unnames p f k = rw (st .cells′ p) (giving-up-unnames covers spare (s .taken) (st .front) (s .taken + length (s .queue)) (st .events) p (s .cells p) f k)
 
   pub step-given-up : (p : Pixel) → s′ .cells p ≡ givenUp → (s .cells p ≡ givenUp) ⊎ (T (anyGivesUp (st .events)) × T (covers (st .front) p))
   step-given-up p e = given-up-by covers spare (s .taken) (st .front) (s .taken + length (s .queue)) (st .events) p (s .cells p) (sym (st .cells′ p) ∙ e)
 
-  pub step-spared : spare ≡ true → (p : Pixel) → s .cells p ≡ isTrue → s′ .cells p ≡ isTrue
+  pub step-spared : spare ≡ true → (p : Pixel) → s .cells p ≡ markedTrue → s′ .cells p ≡ markedTrue
   step-spared h p e = st .cells′ p ∙ rw e (spared covers spare h (s .taken) (st .front) (s .taken + length (s .queue)) (st .events) p)
 
-  pub step-unharmed : anyGivesUp (st .events) ≡ false → (p : Pixel) → s .cells p ≡ isTrue → s′ .cells p ≡ isTrue
+  pub step-unharmed : anyGivesUp (st .events) ≡ false → (p : Pixel) → s .cells p ≡ markedTrue → s′ .cells p ≡ markedTrue
   step-unharmed h p e = st .cells′ p ∙ rw e (unharmed covers spare (s .taken) (st .front) (s .taken + length (s .queue)) (st .events) p h)
 
   pub step-alike : WholePicture covers spare s s′ st → (p q : Pixel) → s .cells p ≡ s .cells q → s′ .cells p ≡ s′ .cells q

@@ -1,8 +1,8 @@
 -- The promises, each under the sentence that it proves; the words are those of specs/, the proofs stand in the modules cited. First the four sentences
 -- of demand 3, then what the colours mean, then what stands behind them.
 -- Blocks, pixels, `covers` (every floor and shape) and `spare` (either mode) are variables throughout. The demand's conditions: an accepted
--- setup is AcceptedSetup; a finished step has had legal verdicts; "each on the record, ring and cells that setup or the step before it
--- left, and nobody else writes" is how FinishedSteps are chained. Assumes nothing.
+-- setup is AcceptedSetup; a finished step has had legal verdicts; each on the record, ring and cells that setup or the step before it
+-- left, with nobody else writing, is how FinishedSteps are chained. Assumes nothing.
 use mathlib.Core.Path.{_≡_}
 use mathlib.Core.Logic.{_⊎_, _↔_}
 use mathlib.Core.Bool.{Bool}
@@ -13,13 +13,16 @@ use lib.ListN.{length, drop}
 use lib.IntN.{ℤ}
 use lib.Signed.{_≤ℤ_}
 use Rattle.base.proofs.AxisLaws.{places-over, places-under}
-use Rattle.theory.specs.Lists.{Every, Some, sumOver}
-use Rattle.theory.specs.Cells.{isTrue, givenUp, named, readsTrue, readsFalse, readsUncertain}
+use Rattle.base.specs.Lists.{Every, Some}
+use Rattle.theory.specs.Cells.{markedTrue, givenUp, named, readsTrue, readsFalse, readsUncertain}
 use Rattle.theory.specs.Runs.{Snapshot, AcceptedSetup, Narrower, AllNarrower, FinishedStep, FinishedSteps, EveryStep, queuedIn}
-use Rattle.theory.specs.Demand3.{pixelReads, NoneCovers, CoversAtMostOne, NamesLast, WasGivenUp, LooksBeforeGivingUp, GivesUpAlike, KeepsTrue, GivesUpOnePixel, GivesUpBelow, WholePicture}
-use Rattle.theory.specs.Levels.{Place, placeAt, costAbove, OneBlock, QueuesChildren, QueuesAbove, NeverRise, OnTwoLevels, placesAlong, placesAbove, stripPlacesAbove, pixelFigure, stripPixelFigure}
+use Rattle.theory.specs.Demand3.{pixelReads, NoneCovers, CoversAtMostOne, NamesLast, WasGivenUp, LooksBeforeGivingUp, GivesUpAlike, KeepsTrue}
+use Rattle.theory.specs.Demand3.{GivesUpOnePixel, GivesUpBelow, WholePicture}
+use Rattle.theory.specs.Levels.{BlockPlace, placeAt, costAbove, OneBlock, QueuesChildren, QueuesAbove, NeverRise, OnTwoLevels, placesAlong}
+use Rattle.theory.specs.Levels.{placesAbove, stripPlacesAbove, pixelFigure, stripPixelFigure, sumOver}
 use Rattle.theory.specs.Shapes.{PixelIn, coversPixel, coversByPlace, quarters, halvesInX}
-use Rattle.theory.specs.Colours.{Question, HasSolution, HoldsAll, Turn, childOf, inTurn, afterwards, Cutting, Follows, LosesNothing, Judged, EveryTurn, FalseRight, MarkRight, DecidedBelow}
+use Rattle.theory.specs.Colours.{Question, HasSolution, HoldsAll, Judgement, judgedChild, marksInOrder, afterwards, Cutting, Follows}
+use Rattle.theory.specs.Colours.{LosesNothing, StepByVerdicts, EveryJudgement, FalseRight, MarkRight, DecidedBelow}
 use Rattle.theory.specs.Positions.{Ruler, PlaceHolds, StripHolds, LiesBetween, SharedEdges, Fraction, LiesExactly, InPixelAlong}
 use Rattle.theory.specs.Cuts.{Span, firstPieces, laterPieces, InSpan, Owes, firstIntegers, laterIntegers}
 use Rattle.theory.proofs.Invariant.{setup-sound, steps-sound, sound-named}
@@ -35,7 +38,7 @@ use Rattle.theory.proofs.PlaceCount.{root-cost, strip-root-cost}
 use Rattle.theory.proofs.Bounds.{square-bound, strip-bound, emptied, low-covers-one, pixel-square-bound, pixel-strip-bound}
 use Rattle.theory.proofs.WhiteMeansNo.{reads-false-none, empty-decides}
 use Rattle.theory.proofs.TrueMeansYes.{reads-true-solves}
-use Rattle.theory.proofs.TurnLaws.{turns-narrower, judged-looks, judged-queues}
+use Rattle.theory.proofs.JudgementLaws.{judgements-narrower, judged-looks, judged-queues}
 use Rattle.theory.proofs.HalvesHold.{root-holds, quarters-hold, halves-hold, strip-root-holds}
 use Rattle.theory.proofs.Edges.{edges-ruler, exact-ruler, pixel-exactly}
 use Rattle.theory.proofs.CutsHold.{first-pieces-hold, later-pieces-hold, first-integers-owe, later-integers-owe}
@@ -55,20 +58,20 @@ module _ {Block Pixel : Type 0} (covers : Block → Pixel → Bool) (spare : Boo
 
   -- "A block with d blocks before it has left the queue after d + 1 further finished steps": it and those before it are gone, those behind it
   -- come first, and what was queued since stands behind them. (By place: equal blocks may be queued twice.)
-  pub leaves : (d : ℕ) {s s′ : Snapshot Block Pixel} (r : FinishedSteps covers spare (suc d) s s′) → d < length (s .queue)
+  pub leaves-queue : (d : ℕ) {s s′ : Snapshot Block Pixel} (r : FinishedSteps covers spare (suc d) s s′) → d < length (s .queue)
       → s′ .queue ≡ drop (suc d) (s .queue) ++ queuedIn covers spare r
-  leaves d = queue-behind covers spare
+  leaves-queue d = queue-behind covers spare
 
 -- "If x or y is used and there is no parameter, then once the finished steps reach the sum, over j from 1 to the start level, of
 -- ceil(width / 2^j) times ceil(height / 2^j), no queued block covers more than one pixel." (px is the level of a pixel.)
-pub pixel-bound : {Block : Type 0} (w h px k : ℕ) (spare : Bool) (placeOf : Block → Place) {n : ℕ} {s₀ s : Snapshot Block (PixelIn w h)}
+pub pixel-bound : {Block : Type 0} (w h px k : ℕ) (spare : Bool) (placeOf : Block → BlockPlace) {n : ℕ} {s₀ s : Snapshot Block (PixelIn w h)}
     → OneBlock placeOf px w h k s₀ → (r : FinishedSteps (coversByPlace w h px placeOf) spare n s₀ s)
     → EveryStep (coversByPlace w h px placeOf) spare (QueuesChildren (coversByPlace w h px placeOf) spare placeOf (quarters px w h)) r
     → pixelFigure w h k ≤ n → Every (CoversAtMostOne (coversByPlace w h px placeOf)) (s .queue)
 pixel-bound = pixel-square-bound
 
 -- of a strip, ceil(width / 2^j) alone
-pub strip-pixel-bound : {Block : Type 0} (w px k : ℕ) (spare : Bool) (placeOf : Block → Place) {n : ℕ} {s₀ s : Snapshot Block (PixelIn w 1)}
+pub strip-pixel-bound : {Block : Type 0} (w px k : ℕ) (spare : Bool) (placeOf : Block → BlockPlace) {n : ℕ} {s₀ s : Snapshot Block (PixelIn w 1)}
     → OneBlock placeOf px w 1 k s₀ → (r : FinishedSteps (coversByPlace w 1 px placeOf) spare n s₀ s)
     → EveryStep (coversByPlace w 1 px placeOf) spare (QueuesChildren (coversByPlace w 1 px placeOf) spare placeOf (halvesInX px w)) r
     → stripPixelFigure w k ≤ n → Every (CoversAtMostOne (coversByPlace w 1 px placeOf)) (s .queue)
@@ -77,25 +80,25 @@ strip-pixel-bound = pixel-strip-bound
 -- ---- What the colours mean: over any mixes, positions and relation
 
 module _ {Block Pixel : Type 0} (covers : Block → Pixel → Bool) (C : Cutting Block) (Q : Question Block Pixel) (spare : Bool) where
-  -- "if every `false` verdict was right, a pixel that reads False holds no solution"
+  -- if every `false` verdict was right, a pixel that reads False holds no solution
   pub white-means-no : LosesNothing covers C Q → {n : ℕ} {s₀ s : Snapshot Block Pixel} → AcceptedSetup covers s₀ → HoldsAll covers Q s₀
-      → (r : FinishedSteps covers spare n s₀ s) (j : EveryStep covers spare (Judged covers C spare) r)
-      → EveryTurn covers C spare (FalseRight covers Q) r j
+      → (r : FinishedSteps covers spare n s₀ s) (j : EveryStep covers spare (StepByVerdicts covers C spare) r)
+      → EveryJudgement covers C spare (FalseRight covers Q) r j
       → (p : Pixel) → pixelReads s p ≡ readsFalse → ¬ HasSolution Q p
   white-means-no laws = reads-false-none covers C Q laws spare
 
-  -- "if every mark was right, a pixel that reads True holds one"
+  -- if every mark was right, a pixel that reads True holds one
   pub true-means-yes : {n : ℕ} {s₀ s : Snapshot Block Pixel} → AcceptedSetup covers s₀
-      → (r : FinishedSteps covers spare n s₀ s) (j : EveryStep covers spare (Judged covers C spare) r)
-      → EveryTurn covers C spare (MarkRight covers Q) r j
+      → (r : FinishedSteps covers spare n s₀ s) (j : EveryStep covers spare (StepByVerdicts covers C spare) r)
+      → EveryJudgement covers C spare (MarkRight covers Q) r j
       → (p : Pixel) → pixelReads s p ≡ readsTrue → HasSolution Q p
   true-means-yes = reads-true-solves covers C Q spare
 
-  -- "when the queue is empty, every pixel that is not given up is decided"
+  -- when the queue is empty, every pixel that is not given up is decided
   pub done-decides : LosesNothing covers C Q → {n : ℕ} {s₀ s : Snapshot Block Pixel} → AcceptedSetup covers s₀ → HoldsAll covers Q s₀
-      → (r : FinishedSteps covers spare n s₀ s) (j : EveryStep covers spare (Judged covers C spare) r)
-      → EveryTurn covers C spare (FalseRight covers Q) r j
-      → EveryTurn covers C spare (MarkRight covers Q) r j → s .queue ≡ [] → (p : Pixel) → ¬ (s .cells p ≡ givenUp)
+      → (r : FinishedSteps covers spare n s₀ s) (j : EveryStep covers spare (StepByVerdicts covers C spare) r)
+      → EveryJudgement covers C spare (FalseRight covers Q) r j
+      → EveryJudgement covers C spare (MarkRight covers Q) r j → s .queue ≡ [] → (p : Pixel) → ¬ (s .cells p ≡ givenUp)
       → ((pixelReads s p ≡ readsTrue) × HasSolution Q p) ⊎ ((pixelReads s p ≡ readsFalse) × (¬ HasSolution Q p))
   done-decides laws = empty-decides covers C Q laws spare
 
@@ -104,7 +107,7 @@ module _ {Block Pixel : Type 0} (covers : Block → Pixel → Bool) (C : Cutting
 module _ {Block Pixel : Type 0} (covers : Block → Pixel → Bool) (spare : Bool) where
   -- given up ever, by a step, and given up now, in the cell: of a pixel that isn't True these are one
   pub given-up-ever-now : {n : ℕ} {s₀ s : Snapshot Block Pixel} → AcceptedSetup covers s₀ → (r : FinishedSteps covers spare n s₀ s) (p : Pixel)
-      → ¬ (s .cells p ≡ isTrue) → WasGivenUp covers spare r p ↔ (s .cells p ≡ givenUp)
+      → ¬ (s .cells p ≡ markedTrue) → WasGivenUp covers spare r p ↔ (s .cells p ≡ givenUp)
   given-up-ever-now = was-now covers spare
 
   -- the invariant: a cell that names a block still in the queue names the last queued block that covers its pixel
@@ -112,7 +115,7 @@ module _ {Block Pixel : Type 0} (covers : Block → Pixel → Bool) (spare : Boo
       → (p : Pixel) (m : ℕ) → s .cells p ≡ named m → NamesLast covers (s .taken) (s .queue) p m
   names-last {s = s} z r = sound-named covers s (steps-sound covers spare r (setup-sound covers z))
 
-  -- "Uncertain: given up by a step, or a queued block covers it": so a pixel reads exactly if it isn't True and one of the two holds
+  -- Uncertain is a pixel that was given up by a step, or that a queued block covers: it reads so exactly if it isn't True and one of the two holds
   pub grey-says : {n : ℕ} {s₀ s : Snapshot Block Pixel} → AcceptedSetup covers s₀ → (r : FinishedSteps covers spare n s₀ s) (p : Pixel)
       → (pixelReads s p ≡ readsUncertain)
       ↔ ((¬ (pixelReads s p ≡ readsTrue)) × (WasGivenUp covers spare r p ⊎ Some (λ b. T (covers b p)) (s .queue)))
@@ -179,22 +182,22 @@ pub strip-root-costs-places : (px w L n : ℕ) → zero < w * 2 ^ px → w * 2 ^
     → costAbove (halvesInX px w) L (placeAt 0 0 (L + n)) ≡ stripPlacesAbove (w * 2 ^ px) L n
 strip-root-costs-places = strip-root-cost
 
-pub quarters-are-lower : (px w h : ℕ) (b : Place) → Every (λ c. suc (c .level) ≡ b .level) (quarters px w h b)
+pub quarters-are-lower : (px w h : ℕ) (b : BlockPlace) → Every (λ c. suc (c .level) ≡ b .level) (quarters px w h b)
 quarters-are-lower = quarters-lower
 
-pub halves-are-lower : (px w : ℕ) (b : Place) → Every (λ c. suc (c .level) ≡ b .level) (halvesInX px w b)
+pub halves-are-lower : (px w : ℕ) (b : BlockPlace) → Every (λ c. suc (c .level) ≡ b .level) (halvesInX px w b)
 halves-are-lower = halves-lower
 
-module _ {Block Pixel : Type 0} (covers : Block → Pixel → Bool) (spare : Bool) (placeOf : Block → Place) where
+module _ {Block Pixel : Type 0} (covers : Block → Pixel → Bool) (spare : Bool) (placeOf : Block → BlockPlace) where
   -- however places are cut into places one level lower:
-  module _ (cut : Place → List Place) (lower : (b : Place) → Every (λ c. suc (c .level) ≡ b .level) (cut b)) where
+  module _ (cut : BlockPlace → List BlockPlace) (lower : (b : BlockPlace) → Every (λ c. suc (c .level) ≡ b .level) (cut b)) where
     -- a step that takes a block above L lowers what the queue can still cost above L
     pub cost-falls : (L : ℕ) {s s′ : Snapshot Block Pixel} (st : FinishedStep covers spare s s′) → QueuesChildren covers spare placeOf cut s s′ st
         → L < placeOf (st .front) .level
         → sumOver (costAbove cut L) (map placeOf (s′ .queue)) < sumOver (costAbove cut L) (map placeOf (s .queue))
     cost-falls = step-costs cut lower covers spare placeOf
 
-    -- "levels never rise from the front of the queue to its back, and at most two neighbouring levels are queued at once"
+    -- "levels never rise from the front of the queue to its back and that at most two neighbouring levels are queued at once"
     pub levels-never-rise : {n : ℕ} {s₀ s : Snapshot Block Pixel} (root : Block) → s₀ .queue ≡ root ∷ [] → (r : FinishedSteps covers spare n s₀ s)
         → EveryStep covers spare (QueuesChildren covers spare placeOf cut) r
         → NeverRise (map placeOf (s .queue)) × ((j : ℕ) × OnTwoLevels j (map placeOf (s .queue)))
@@ -217,20 +220,20 @@ module _ {Block Pixel : Type 0} (covers : Block → Pixel → Bool) (spare : Boo
       → Every (λ b. placeOf b .level ≤ floor) (s .queue) → s .queue ≡ []
   empty-at-floor = emptied covers spare placeOf
 
--- "if everything looked at on a pixel's level or below is decided, no pixel is grey once the steps reach the customer's sum", or the queue is empty: the sum of pixel-bound, of a
--- picture of more than one pixel (k is at least 1), where a step that gives up takes a block on a pixel's level or below
-module _ {Block Pixel : Type 0} (covers : Block → Pixel → Bool) (C : Cutting Block) (spare : Bool) (placeOf : Block → Place)
+-- if everything looked at on a pixel's level or below is decided, no pixel is grey once the steps reach the customer's sum, or the queue is empty: the
+-- sum of pixel-bound, of a picture of more than one pixel (k is at least 1), where a step that gives up takes a block on a pixel's level or below
+module _ {Block Pixel : Type 0} (covers : Block → Pixel → Bool) (C : Cutting Block) (spare : Bool) (placeOf : Block → BlockPlace)
     (same : (c d : Block) → C .Same c d → placeOf d .level ≡ placeOf c .level) where
   pub decided-in-time : (px w h k : ℕ) {n : ℕ} {s₀ s : Snapshot Block Pixel} → AcceptedSetup covers s₀ → OneBlock placeOf px w h k s₀ → 1 ≤ k
       → (r : FinishedSteps covers spare n s₀ s)
       → EveryStep covers spare (QueuesChildren covers spare placeOf (quarters px w h)) r
       → EveryStep covers spare (GivesUpBelow covers spare (λ b. placeOf b .level) px) r
-      → (j : EveryStep covers spare (Judged covers C spare) r) → EveryTurn covers C spare (DecidedBelow (λ b. placeOf b .level) px) r j
+      → (j : EveryStep covers spare (StepByVerdicts covers C spare) r) → EveryJudgement covers C spare (DecidedBelow (λ b. placeOf b .level) px) r j
       → (pixelFigure w h k ≤ n) ⊎ (s .queue ≡ []) → (s .queue ≡ []) × ((p : Pixel) → ¬ (pixelReads s p ≡ readsUncertain))
   decided-in-time = decided-by-figure covers C spare placeOf same
 
 -- a block at the pixel's level or below it covers at most one pixel
-pub low-covers-at-most-one : {Block : Type 0} (w h px : ℕ) (placeOf : Block → Place) (b : Block) → placeOf b .level ≤ px
+pub low-covers-at-most-one : {Block : Type 0} (w h px : ℕ) (placeOf : Block → BlockPlace) (b : Block) → placeOf b .level ≤ px
     → CoversAtMostOne (coversByPlace w h px placeOf) b
 low-covers-at-most-one = low-covers-one
 
@@ -239,30 +242,31 @@ low-covers-at-most-one = low-covers-one
 module _ {Block Pixel : Type 0} (covers : Block → Pixel → Bool) (C : Cutting Block) where
   -- of a step by its verdicts, if children cover only what their parent covers: so do its events, as a finished step asks; and a step that gives up
   -- has looked, which is the other fact of KeepsTrue
-  pub turns-stay-inside : ((c d : Block) (p : Pixel) → C .Same c d → covers d p ≡ covers c p) → (b : Block) (ts : List (Turn Block))
+  pub judgements-stay-inside : ((c d : Block) (p : Pixel) → C .Same c d → covers d p ≡ covers c p) → (b : Block) (ts : List (Judgement Block))
       → Every (Follows C) ts
-      → Every (Narrower covers b) (map childOf ts) → AllNarrower covers b (inTurn ts ++ afterwards ts)
-  turns-stay-inside = turns-narrower covers C
+      → Every (Narrower covers b) (map judgedChild ts) → AllNarrower covers b (marksInOrder ts ++ afterwards ts)
+  judgements-stay-inside = judgements-narrower covers C
 
   pub looks-by-skip-rule : (spare : Bool) (s s′ : Snapshot Block Pixel) (st : FinishedStep covers spare s s′)
       → Every (Narrower covers (st .front)) (C .children (st .front))
-      → Judged covers C spare s s′ st → LooksBeforeGivingUp covers spare s s′ st
+      → StepByVerdicts covers C spare s s′ st → LooksBeforeGivingUp covers spare s s′ st
   looks-by-skip-rule = judged-looks covers C
 
   -- and what it queues are children of the place, if its block's children are: as the bound asks
-  pub queues-by-turns : (spare : Bool) (placeOf : Block → Place) (cut : Place → List Place) → ((c d : Block) → C .Same c d → placeOf d ≡ placeOf c)
+  pub queues-by-judgements : (spare : Bool) (placeOf : Block → BlockPlace) (cut : BlockPlace → List BlockPlace)
+      → ((c d : Block) → C .Same c d → placeOf d ≡ placeOf c)
       → (s s′ : Snapshot Block Pixel) (st : FinishedStep covers spare s s′) → map placeOf (C .children (st .front)) ≡ cut (placeOf (st .front))
-      → Judged covers C spare s s′ st → QueuesChildren covers spare placeOf cut s s′ st
-  queues-by-turns = judged-queues covers C
+      → StepByVerdicts covers C spare s s′ st → QueuesChildren covers spare placeOf cut s s′ st
+  queues-by-judgements = judged-queues covers C
 
 -- ---- The covering laws, as far as they are about numbers alone
 
 -- a child covers only what its parent covers
-pub quarters-stay-inside : (w h px : ℕ) (b : Place)
+pub quarters-stay-inside : (w h px : ℕ) (b : BlockPlace)
     → Every (λ c. (p : PixelIn w h) → T (coversPixel px c p) → T (coversPixel px b p)) (quarters px w h b)
 quarters-stay-inside = quarters-cover-less
 
-pub halves-stay-inside : (w px : ℕ) (b : Place) → b .y ≡ 0
+pub halves-stay-inside : (w px : ℕ) (b : BlockPlace) → b .y ≡ 0
     → Every (λ c. (p : PixelIn w 1) → T (coversPixel px c p) → T (coversPixel px b p)) (halvesInX px w b)
 halves-stay-inside = halves-cover-less
 
@@ -272,11 +276,11 @@ module _ {X Y : Type 0} (w h px : ℕ) (LiesX : ℕ → ℕ → X → Type 0) (r
       → PlaceHolds px LiesX LiesY x y p (placeAt 0 0 (px + k))
   first-block-holds = root-holds w h px LiesX rulerX LiesY rulerY
 
-  pub quarters-lose-nothing : (p : PixelIn w h) (x : X) (y : Y) (b : Place) → zero < b .level → LiesX (p .x) px x → LiesY (p .y) px y
+  pub quarters-lose-nothing : (p : PixelIn w h) (x : X) (y : Y) (b : BlockPlace) → zero < b .level → LiesX (p .x) px x → LiesY (p .y) px y
       → PlaceHolds px LiesX LiesY x y p b → Some (PlaceHolds px LiesX LiesY x y p) (quarters px w h b)
   quarters-lose-nothing = quarters-hold w h px LiesX rulerX LiesY rulerY
 
-pub halves-lose-nothing : {X : Type 0} (w px : ℕ) (Lies : ℕ → ℕ → X → Type 0) → Ruler px Lies → (p : PixelIn w 1) (x : X) (b : Place)
+pub halves-lose-nothing : {X : Type 0} (w px : ℕ) (Lies : ℕ → ℕ → X → Type 0) → Ruler px Lies → (p : PixelIn w 1) (x : X) (b : BlockPlace)
     → zero < b .level → Lies (p .x) px x
     → StripHolds px Lies x p b → Some (StripHolds px Lies x p) (halvesInX px w b)
 halves-lose-nothing = halves-hold

@@ -6,7 +6,7 @@ use mathlib.Core.Bool.{Bool}
 use Prim.Native.Nat.{ℕ}
 use lib.Dec.{T}
 use Rattle.base.proofs.Test.{≡→T, cases}
-use Rattle.theory.specs.Cells.{isTrue, PixelReading, readsTrue, readsFalse, readsUncertain}
+use Rattle.theory.specs.Cells.{markedTrue, PixelReading, readsTrue, readsFalse, readsUncertain}
 use Rattle.theory.specs.Runs.{Snapshot, AcceptedSetup, FinishedStep, FinishedSteps, no-step, one-more, EveryStep}
 use Rattle.theory.specs.Demand3.{pixelReads, anyGivesUp, LooksBeforeGivingUp, CoversAtMostOne, GivesUpAlike, KeepsTrue, GivesUpOnePixel, WholePicture}
 use Rattle.theory.proofs.StandingLaws.{reads-true, step-untouched, step-spared, step-unharmed, step-alike}
@@ -17,20 +17,20 @@ module _ {Block Pixel : Type 0} (covers : Block → Pixel → Bool) (spare : Boo
   -- a cell that was True lies outside the block of a step that gives up
   outside : (s s′ : Snapshot Block Pixel) (st : FinishedStep covers spare s s′) → LooksBeforeGivingUp covers spare s s′ st
       → GivesUpAlike covers spare s s′ st
-      → T (anyGivesUp (st .events)) → (p : Pixel) → s .cells p ≡ isTrue → ¬ T (covers (st .front) p)
+      → T (anyGivesUp (st .events)) → (p : Pixel) → s .cells p ≡ markedTrue → ¬ T (covers (st .front) p)
   unfolding LooksBeforeGivingUp GivesUpAlike
   outside s s′ st l a g p e k = let (q, c, n) = l g in n (a g q p c k ∙ e)
 
   old-step : (s s′ : Snapshot Block Pixel) (st : FinishedStep covers spare s s′) → LooksBeforeGivingUp covers spare s s′ st
       → GivesUpAlike covers spare s s′ st
-      → (p : Pixel) → s .cells p ≡ isTrue → s′ .cells p ≡ isTrue
+      → (p : Pixel) → s .cells p ≡ markedTrue → s′ .cells p ≡ markedTrue
   old-step s s′ st l a p e =
       cases (anyGivesUp (st .events))
       (λ g. step-untouched covers spare st p (outside s s′ st l a (≡→T g) p e) ∙ e)
       (λ g. step-unharmed covers spare st g p e)
 
   true-cells : {n : ℕ} {s s′ : Snapshot Block Pixel} (r : FinishedSteps covers spare n s s′) → KeepsTrue covers spare r → (p : Pixel)
-      → s .cells p ≡ isTrue → s′ .cells p ≡ isTrue
+      → s .cells p ≡ markedTrue → s′ .cells p ≡ markedTrue
   unfolding EveryStep KeepsTrue
   true-cells no-step h p e = e
   true-cells (one-more r st) (inl h) p e = step-spared covers spare st h p (true-cells r (inl h) p e)

@@ -10,72 +10,74 @@ use native.Mathlib.Omega.{arith}
 use lib.Dec.{T}
 use lib.ListN.{length}
 use Rattle.base.proofs.Test.{T→≡}
-use Rattle.theory.specs.Lists.{Every, Some}
-use Rattle.theory.specs.Cells.{Standing, isTrue, givenUp, named, readsTrue, readsFalse}
+use Rattle.theory.specs.Cells.{Standing, markedTrue, givenUp, named, readsTrue, readsFalse}
 use Rattle.theory.specs.Runs.{Snapshot, Event, queuedBy, AcceptedSetup, cellAfter, FinishedStep, FinishedSteps, no-step, one-more, EveryStep}
 use Rattle.theory.specs.Demand3.{pixelReads, anyGivesUp, NoneCovers}
-use Rattle.theory.specs.Colours.{Question, HasSolution, Holds, NoneIn, HoldsAll, skipped, denied, marked, queuedAs, stuck, Turn, turn, childOf, inTurn, afterwards, Cutting, Follows, AllTrue, SkipRule, LosesNothing, Judged, EveryTurn, FalseRight, MarkRight}
-use Rattle.theory.proofs.ListLaws.{some-left, some-right}
-use Rattle.theory.proofs.Settled.{Settled}
-use Rattle.theory.proofs.StandingLaws.{reads-true, reads-false, settled-stays, step-settled, step-settles}
+use Rattle.theory.specs.Colours.{Question, HasSolution, Holds, NoneIn, HoldsAll, skipped, denied, marked, waitsAs, stuck, Judgement, judgement}
+use Rattle.theory.specs.Colours.{judgedChild, marksInOrder, afterwards, Cutting, Follows, AllTrue, SkipRule, LosesNothing, StepByVerdicts}
+use Rattle.theory.specs.Colours.{EveryJudgement, FalseRight, MarkRight}
+use Rattle.base.specs.Lists.{Every, Some}
+use Rattle.base.proofs.ListLaws.{some-left, some-right}
+use Rattle.theory.proofs.Nameless.{Nameless}
+use Rattle.theory.proofs.StandingLaws.{reads-true, reads-false, nameless-stays, step-nameless, step-unnames}
 use Rattle.theory.proofs.Invariant.{setup-sound, steps-sound}
 use Rattle.theory.proofs.FalseRule.{false-by-cell}
-use Rattle.theory.proofs.TurnLaws.{denied-looked, queued-afterwards, given-up-afterwards}
+use Rattle.theory.proofs.JudgementLaws.{denied-looked, queued-afterwards, given-up-afterwards}
 use Rattle.theory.proofs.TrueMeansYes.{reads-true-solves}
 
 module _ {Block Pixel : Type 0} (covers : Block → Pixel → Bool) (C : Cutting Block) (Q : Question Block Pixel) (laws : LosesNothing covers C Q)
     (spare : Bool) where
-  -- a solution in one of the children: the marks settle its pixel, or a child gives up, or it lies in what is queued
-  found : (ts : List (Turn Block)) (x : Q .Mix) (p : Pixel) → Q .Given x → Q .At x p → Q .Solves x → Every (FalseRight covers Q) ts
+  -- a solution in one of the children: the marks make its pixel True, or a child gives up, or it lies in what is queued
+  found : (ts : List (Judgement Block)) (x : Q .Mix) (p : Pixel) → Q .Given x → Q .At x p → Q .Solves x → Every (FalseRight covers Q) ts
       → Every (Follows C) ts
       → (t : ℕ) (b : Block) (m : ℕ) (rest : List (Event Block)) (cells : Pixel → Standing) → SkipRule covers cells ts
-      → Some (Holds covers Q x p) (map childOf ts)
-      → (Settled (cellAfter covers spare t b m (inTurn ts ++ rest) p (cells p)) ⊎ T (anyGivesUp (afterwards ts))) ⊎ Some (Holds covers Q x p)
+      → Some (Holds covers Q x p) (map judgedChild ts)
+      → (Nameless (cellAfter covers spare t b m (marksInOrder ts ++ rest) p (cells p)) ⊎ T (anyGivesUp (afterwards ts))) ⊎ Some (Holds covers Q x p)
       (queuedBy (afterwards ts))
-  unfolding Some Holds childOf Every FalseRight NoneIn Follows SkipRule AllTrue inTurn afterwards queuedBy anyGivesUp cellAfter
+  unfolding Some Holds judgedChild FalseRight NoneIn Follows SkipRule AllTrue marksInOrder afterwards queuedBy anyGivesUp cellAfter
   found [] x p g at so a w t b m rest cells k h = absurd h
-  found (turn c v skipped ∷ ts) x p g at so a w t b m rest cells k (inl h) =
-      inl (inl (settled-stays covers spare t b m (inTurn ts ++ rest) p (cells p) (rw (k .0 p (h .1)) tt)))
-  found (turn c v skipped ∷ ts) x p g at so a w t b m rest cells k (inr h) = found ts x p g at so (a .1) (w .1) t b m rest cells (k .1) h
-  found (turn c v denied ∷ ts) x p g at so a w t b m rest cells k (inl h) = absurd (a .0 (denied-looked Block) (w .0) x p g at h so)
-  found (turn c v denied ∷ ts) x p g at so a w t b m rest cells k (inr h) = found ts x p g at so (a .1) (w .1) t b m rest cells (k .1) h
-  found (turn c v marked ∷ ts) x p g at so a w t b m rest cells k (inl h) =
-      inl (inl (settled-stays covers spare t b m (inTurn ts ++ rest) p (cond (covers c p) isTrue (cells p)) (rw (T→≡ (covers c p) (h .1)) tt)))
-  found (turn c v marked ∷ ts) x p g at so a w t b m rest cells k (inr h) =
-      found ts x p g at so (a .1) (w .1) t b m rest (λ q. cond (covers c q) isTrue (cells q)) (k .1) h
-  found (turn c v (queuedAs d) ∷ ts) x p g at so a w t b m rest cells k (inl h) =
+  found (judgement c v skipped ∷ ts) x p g at so a w t b m rest cells k (inl h) =
+      inl (inl (nameless-stays covers spare t b m (marksInOrder ts ++ rest) p (cells p) (rw (k .0 p (h .1)) tt)))
+  found (judgement c v skipped ∷ ts) x p g at so a w t b m rest cells k (inr h) = found ts x p g at so (a .1) (w .1) t b m rest cells (k .1) h
+  found (judgement c v denied ∷ ts) x p g at so a w t b m rest cells k (inl h) = absurd (a .0 (denied-looked Block) (w .0) x p g at h so)
+  found (judgement c v denied ∷ ts) x p g at so a w t b m rest cells k (inr h) = found ts x p g at so (a .1) (w .1) t b m rest cells (k .1) h
+  found (judgement c v marked ∷ ts) x p g at so a w t b m rest cells k (inl h) =
+      inl (inl (nameless-stays covers spare t b m (marksInOrder ts ++ rest) p (cond (covers c p) markedTrue (cells p)) (rw (T→≡ (covers c p) (h .1)) tt)))
+  found (judgement c v marked ∷ ts) x p g at so a w t b m rest cells k (inr h) =
+      found ts x p g at so (a .1) (w .1) t b m rest (λ q. cond (covers c q) markedTrue (cells q)) (k .1) h
+  found (judgement c v (waitsAs d) ∷ ts) x p g at so a w t b m rest cells k (inl h) =
       inr (inl (laws .same-holds c d x (w .0 .1) (h .0), rw (laws .same-covers c d p (w .0 .1)) (h .1)))
-  found (turn c v (queuedAs d) ∷ ts) x p g at so a w t b m rest cells k (inr h) =
+  found (judgement c v (waitsAs d) ∷ ts) x p g at so a w t b m rest cells k (inr h) =
       ⊎-elim (λ o. inl o) (λ o. inr (inr o)) (found ts x p g at so (a .1) (w .1) t b m rest cells (k .1) h)
-  found (turn c v stuck ∷ ts) x p g at so a w t b m rest cells k h = inl (inr tt)
+  found (judgement c v stuck ∷ ts) x p g at so a w t b m rest cells k h = inl (inr tt)
 
   -- the invariant
   Kept : Snapshot Block Pixel → Type 0
   Kept s = (p : Pixel) (n : ℕ) → s .cells p ≡ named n → (x : Q .Mix) → Q .Given x → Q .At x p → Q .Solves x → Some (Holds covers Q x p) (s .queue)
 
-  unsettled : (v : Standing) (n : ℕ) → v ≡ named n → ¬ Settled v
-  unsettled v n e h = let z : Settled (named n) = rw e at h in z
+  not-nameless : (v : Standing) (n : ℕ) → v ≡ named n → ¬ Nameless v
+  not-nameless v n e h = let z : Nameless (named n) = rw e at h in z
 
-  kept-step : {s s′ : Snapshot Block Pixel} (st : FinishedStep covers spare s s′) (j : Judged covers C spare s s′ st)
-      → Every (FalseRight covers Q) (j .turns) → Kept s → Kept s′
+  kept-step : {s s′ : Snapshot Block Pixel} (st : FinishedStep covers spare s s′) (j : StepByVerdicts covers C spare s s′ st)
+      → Every (FalseRight covers Q) (j .judgements) → Kept s → Kept s′
   unfolding Kept Holds Some
   kept-step {s} {s′} st j a h p n e x g at so = go (s .cells p) refl
     where
-      ts : List (Turn Block)
-      ts = j .turns
+      ts : List (Judgement Block)
+      ts = j .judgements
 
-      named-still : ¬ Settled (s′ .cells p)
-      named-still = unsettled (s′ .cells p) n e
+      named-still : ¬ Nameless (s′ .cells p)
+      named-still = not-nameless (s′ .cells p) n e
 
       moved : Some (Holds covers Q x p) (st .rest ++ queuedBy (afterwards ts)) → Some (Holds covers Q x p) (s′ .queue)
       moved k = rw (st .queue′, j .these-events, queued-afterwards ts (afterwards ts)) k
 
-      ended : (Settled (cellAfter covers spare (s .taken) (st .front) (s .taken + length (s .queue)) (inTurn ts ++ afterwards ts) p (s .cells p)) ⊎ T
+      ended : (Nameless (cellAfter covers spare (s .taken) (st .front) (s .taken + length (s .queue)) (marksInOrder ts ++ afterwards ts) p (s .cells p)) ⊎ T
           (anyGivesUp (afterwards ts)))
           ⊎ Some (Holds covers Q x p) (queuedBy (afterwards ts))
           → T (covers (st .front) p) → Some (Holds covers Q x p) (s′ .queue)
       ended (inl (inl k)) c = absurd (named-still (rw (st .cells′ p, j .these-events) k))
-      ended (inl (inr k)) c = absurd (named-still (step-settles covers spare st p (rw (j .these-events, given-up-afterwards ts (afterwards ts)) k) c))
+      ended (inl (inr k)) c = absurd (named-still (step-unnames covers spare st p (rw (j .these-events, given-up-afterwards ts (afterwards ts)) k) c))
       ended (inr k) c = moved (some-right (Holds covers Q x p) (st .rest) (queuedBy (afterwards ts)) k)
 
       held : Some (Holds covers Q x p) (st .front ∷ st .rest) → Some (Holds covers Q x p) (s′ .queue)
@@ -85,26 +87,26 @@ module _ {Block Pixel : Type 0} (covers : Block → Pixel → Bool) (C : Cutting
       held (inr o) = moved (some-left (Holds covers Q x p) (st .rest) (queuedBy (afterwards ts)) o)
 
       go : (v : Standing) → s .cells p ≡ v → Some (Holds covers Q x p) (s′ .queue)
-      go isTrue f = absurd (named-still (step-settled covers spare st p (rw f tt)))
-      go givenUp f = absurd (named-still (step-settled covers spare st p (rw f tt)))
+      go markedTrue f = absurd (named-still (step-nameless covers spare st p (rw f tt)))
+      go givenUp f = absurd (named-still (step-nameless covers spare st p (rw f tt)))
       go (named i) f = held (rw st.at-front at (h p i f x g at so))
 
-  kept-steps : {n : ℕ} {s s′ : Snapshot Block Pixel} (r : FinishedSteps covers spare n s s′) (j : EveryStep covers spare (Judged covers C spare) r)
-      → EveryTurn covers C spare (FalseRight covers Q) r j
+  kept-steps : {n : ℕ} {s s′ : Snapshot Block Pixel} (r : FinishedSteps covers spare n s s′) (j : EveryStep covers spare (StepByVerdicts covers C spare) r)
+      → EveryJudgement covers C spare (FalseRight covers Q) r j
       → Kept s → Kept s′
-  unfolding EveryStep EveryTurn
+  unfolding EveryStep EveryJudgement
   kept-steps no-step j a h = h
   kept-steps (one-more r st) j a h = kept-step st (j .1) (a .1) (kept-steps r (j .0) (a .0) h)
 
   none-holds : (x : Q .Mix) (p : Pixel) (q : List Block) → NoneCovers covers q p → ¬ Some (Holds covers Q x p) q
-  unfolding Some Holds NoneCovers Every
+  unfolding Some Holds NoneCovers
   none-holds x p [] h k = k
   none-holds x p (b ∷ q) h (inl k) = h .0 (k .1)
   none-holds x p (b ∷ q) h (inr k) = none-holds x p q (h .1) k
 
   pub reads-false-none : {n : ℕ} {s₀ s : Snapshot Block Pixel} → AcceptedSetup covers s₀ → HoldsAll covers Q s₀
-      → (r : FinishedSteps covers spare n s₀ s) (j : EveryStep covers spare (Judged covers C spare) r)
-      → EveryTurn covers C spare (FalseRight covers Q) r j → (p : Pixel) → pixelReads s p ≡ readsFalse → ¬ HasSolution Q p
+      → (r : FinishedSteps covers spare n s₀ s) (j : EveryStep covers spare (StepByVerdicts covers C spare) r)
+      → EveryJudgement covers C spare (FalseRight covers Q) r j → (p : Pixel) → pixelReads s p ≡ readsFalse → ¬ HasSolution Q p
   unfolding Kept HasSolution HoldsAll
   reads-false-none {s = s} z begin r j a p e (x, g, at, so) =
       let (n, f, l) = reads-false (s .taken) (s .cells p) .0 (unfold pixelReads in e) in
@@ -112,8 +114,8 @@ module _ {Block Pixel : Type 0} (covers : Block → Pixel → Bool) (C : Cutting
       (kept-steps r j a (λ q m k y gy aty sy. begin y q gy aty) p n f x g at so)
 
   pub empty-decides : {n : ℕ} {s₀ s : Snapshot Block Pixel} → AcceptedSetup covers s₀ → HoldsAll covers Q s₀
-      → (r : FinishedSteps covers spare n s₀ s) (j : EveryStep covers spare (Judged covers C spare) r)
-      → EveryTurn covers C spare (FalseRight covers Q) r j → EveryTurn covers C spare (MarkRight covers Q) r j → s .queue ≡ [] → (p : Pixel)
+      → (r : FinishedSteps covers spare n s₀ s) (j : EveryStep covers spare (StepByVerdicts covers C spare) r)
+      → EveryJudgement covers C spare (FalseRight covers Q) r j → EveryJudgement covers C spare (MarkRight covers Q) r j → s .queue ≡ [] → (p : Pixel)
       → ¬ (s .cells p ≡ givenUp)
       → ((pixelReads s p ≡ readsTrue) × HasSolution Q p) ⊎ ((pixelReads s p ≡ readsFalse) × (¬ HasSolution Q p))
   empty-decides {s = s} z begin r j a m e p k = go (s .cells p) refl
@@ -125,10 +127,10 @@ module _ {Block Pixel : Type 0} (covers : Block → Pixel → Bool) (C : Cutting
       black f = (f, reads-true-solves covers C Q spare z r j m p f)
 
       none : NoneCovers covers (s .queue) p
-      none = rw e (unfold NoneCovers Every in tt)
+      none = rw e (unfold NoneCovers in tt)
 
       go : (v : Standing) → s .cells p ≡ v → ((pixelReads s p ≡ readsTrue) × HasSolution Q p) ⊎ ((pixelReads s p ≡ readsFalse) × (¬ HasSolution Q p))
-      go isTrue f = inl (black (unfold pixelReads in reads-true (s .taken) (s .cells p) .1 f))
+      go markedTrue f = inl (black (unfold pixelReads in reads-true (s .taken) (s .cells p) .1 f))
       go givenUp f = absurd (k f)
       go (named i) f = inr (white (false-by-cell covers s (steps-sound covers spare r (setup-sound covers z)) p .1
           ((λ g. (let o : _≡_ {A = ℕ} 0 1 = cc in omega arith)), k, none)))

@@ -6,8 +6,8 @@ use mathlib.Core.Bool.{Bool, cond}
 use mathlib.Core.List.{List, [], _∷_, _++_, map}
 use Prim.Native.Nat.{ℕ, _≤_}
 use lib.Dec.{T}
-use Rattle.theory.specs.Lists.{Every, Some}
-use Rattle.theory.specs.Cells.{Standing, isTrue}
+use Rattle.base.specs.Lists.{Every, Some}
+use Rattle.theory.specs.Cells.{Standing, markedTrue}
 use Rattle.theory.specs.Runs.{Snapshot, Event, marks, queues, givesUp, FinishedStep, FinishedSteps, no-step, one-more, EveryStep}
 
 -- ---- the question
@@ -50,46 +50,46 @@ module _ {Block Pixel : Type 0} (covers : Block → Pixel → Bool) (Q : Questio
 
 -- what a verdict says of a child: false; true, or that a point was found; or neither
 pub data Said : Type 0 where
-  saidFalse saidTrue saidOpen : Said
+  saidFalse saidTrue saidUndecided : Said
 
 -- what becomes of a child
-pub data Fate (Block : Type 0) : Type 0 where
+pub data ChildEnd (Block : Type 0) : Type 0 where
   -- all its cells were True: what is said of it is not looked at
-  skipped : Fate Block
+  skipped : ChildEnd Block
   -- it is false
-  denied : Fate Block
+  denied : ChildEnd Block
   -- its pixels are marked True
-  marked : Fate Block
-  -- it is incomplete, and is queued as this block, with a direction
-  queuedAs : Block → Fate Block
+  marked : ChildEnd Block
+  -- it is incomplete, and waits in the queue as this block, with a direction
+  waitsAs : Block → ChildEnd Block
   -- it is incomplete, and finds no direction
-  stuck : Fate Block
+  stuck : ChildEnd Block
 
--- a child's turn: the child, what was said of it, what became of it
-pub data Turn (Block : Type 0) : Type 0 where
-  turn : Block → Said → Fate Block → Turn Block
+-- a child's judgement: the child, what was said of it, what became of it
+pub data Judgement (Block : Type 0) : Type 0 where
+  judgement : Block → Said → ChildEnd Block → Judgement Block
 
--- the child whose turn it is
-unfoldable pub childOf : {Block : Type 0} → Turn Block → Block
-childOf (turn c v f) = c
+-- the child that it is about
+unfoldable pub judgedChild : {Block : Type 0} → Judgement Block → Block
+judgedChild (judgement c v f) = c
 
 -- "each child in turn": its pixels may be marked
-unfoldable pub inTurn : {Block : Type 0} → List (Turn Block) → List (Event Block)
-inTurn [] = []
-inTurn (turn c v skipped ∷ ts) = inTurn ts
-inTurn (turn c v denied ∷ ts) = inTurn ts
-inTurn (turn c v marked ∷ ts) = marks c ∷ inTurn ts
-inTurn (turn c v (queuedAs d) ∷ ts) = inTurn ts
-inTurn (turn c v stuck ∷ ts) = inTurn ts
+unfoldable pub marksInOrder : {Block : Type 0} → List (Judgement Block) → List (Event Block)
+marksInOrder [] = []
+marksInOrder (judgement c v skipped ∷ ts) = marksInOrder ts
+marksInOrder (judgement c v denied ∷ ts) = marksInOrder ts
+marksInOrder (judgement c v marked ∷ ts) = marks c ∷ marksInOrder ts
+marksInOrder (judgement c v (waitsAs d) ∷ ts) = marksInOrder ts
+marksInOrder (judgement c v stuck ∷ ts) = marksInOrder ts
 
 -- "afterwards, each incomplete child": it is queued, or its parent's cells are given up
-unfoldable pub afterwards : {Block : Type 0} → List (Turn Block) → List (Event Block)
+unfoldable pub afterwards : {Block : Type 0} → List (Judgement Block) → List (Event Block)
 afterwards [] = []
-afterwards (turn c v skipped ∷ ts) = afterwards ts
-afterwards (turn c v denied ∷ ts) = afterwards ts
-afterwards (turn c v marked ∷ ts) = afterwards ts
-afterwards (turn c v (queuedAs d) ∷ ts) = queues d ∷ afterwards ts
-afterwards (turn c v stuck ∷ ts) = givesUp ∷ afterwards ts
+afterwards (judgement c v skipped ∷ ts) = afterwards ts
+afterwards (judgement c v denied ∷ ts) = afterwards ts
+afterwards (judgement c v marked ∷ ts) = afterwards ts
+afterwards (judgement c v (waitsAs d) ∷ ts) = queues d ∷ afterwards ts
+afterwards (judgement c v stuck ∷ ts) = givesUp ∷ afterwards ts
 
 -- how blocks are cut: a block's children, what a step checks of the block that it takes (else it refuses), and which block may be queued in
 -- place of a child (the same but for its direction)
@@ -99,30 +99,30 @@ pub record Cutting (Block : Type 0) : Type 1 where
   pub Same : Block → Block → Type 0
 
 -- what became of the child follows from what was said of it
-unfoldable pub Follows : {Block : Type 0} → Cutting Block → Turn Block → Type 0
-Follows C (turn c v skipped) = Unit {0}
-Follows C (turn c v denied) = v ≡ saidFalse
-Follows C (turn c v marked) = v ≡ saidTrue
-Follows C (turn c v (queuedAs d)) = (v ≡ saidOpen) × C .Same c d
-Follows C (turn c v stuck) = v ≡ saidOpen
+unfoldable pub Follows : {Block : Type 0} → Cutting Block → Judgement Block → Type 0
+Follows C (judgement c v skipped) = Unit {0}
+Follows C (judgement c v denied) = v ≡ saidFalse
+Follows C (judgement c v marked) = v ≡ saidTrue
+Follows C (judgement c v (waitsAs d)) = (v ≡ saidUndecided) × C .Same c d
+Follows C (judgement c v stuck) = v ≡ saidUndecided
 
 module _ {Block Pixel : Type 0} (covers : Block → Pixel → Bool) where
   -- all cells that the block covers are True
   unfoldable pub AllTrue : (Pixel → Standing) → Block → Type 0
-  AllTrue cells c = (p : Pixel) → T (covers c p) → cells p ≡ isTrue
+  AllTrue cells c = (p : Pixel) → T (covers c p) → cells p ≡ markedTrue
 
   -- a cell that it covers is not True
   unfoldable pub NotAllTrue : (Pixel → Standing) → Block → Type 0
-  NotAllTrue cells c = (p : Pixel) × T (covers c p) × (¬ (cells p ≡ isTrue))
+  NotAllTrue cells c = (p : Pixel) × T (covers c p) × (¬ (cells p ≡ markedTrue))
 
-  -- a child is skipped exactly if all cells that it covers are True when its turn comes, after the marks of those before it
-  unfoldable pub SkipRule : (Pixel → Standing) → List (Turn Block) → Type 0
+  -- a child is skipped exactly if all cells that it covers are True when it is looked at, after the marks of those before it
+  unfoldable pub SkipRule : (Pixel → Standing) → List (Judgement Block) → Type 0
   SkipRule cells [] = Unit {0}
-  SkipRule cells (turn c v skipped ∷ ts) = AllTrue cells c × SkipRule cells ts
-  SkipRule cells (turn c v denied ∷ ts) = NotAllTrue cells c × SkipRule cells ts
-  SkipRule cells (turn c v marked ∷ ts) = NotAllTrue cells c × SkipRule (λ p. cond (covers c p) isTrue (cells p)) ts
-  SkipRule cells (turn c v (queuedAs d) ∷ ts) = NotAllTrue cells c × SkipRule cells ts
-  SkipRule cells (turn c v stuck ∷ ts) = NotAllTrue cells c × SkipRule cells ts
+  SkipRule cells (judgement c v skipped ∷ ts) = AllTrue cells c × SkipRule cells ts
+  SkipRule cells (judgement c v denied ∷ ts) = NotAllTrue cells c × SkipRule cells ts
+  SkipRule cells (judgement c v marked ∷ ts) = NotAllTrue cells c × SkipRule (λ p. cond (covers c p) markedTrue (cells p)) ts
+  SkipRule cells (judgement c v (waitsAs d) ∷ ts) = NotAllTrue cells c × SkipRule cells ts
+  SkipRule cells (judgement c v stuck ∷ ts) = NotAllTrue cells c × SkipRule cells ts
 
   module _ (C : Cutting Block) where
     -- the covering laws: what is queued in place of a child covers and holds what the child does; and the children of a checked block hold what
@@ -134,31 +134,31 @@ module _ {Block Pixel : Type 0} (covers : Block → Pixel → Bool) where
           → Some (Holds covers Q x p) (C .children b)
 
     module _ (spare : Bool) where
-      -- a step as its verdicts have it: a turn for each child, none left out, what became of it as its verdict says, and no event but theirs
-      pub record Judged (s s′ : Snapshot Block Pixel) (st : FinishedStep covers spare s s′) : Type 0 where
+      -- a step as its verdicts have it: a judgement for each child, none left out, what became of it as its verdict says, and no event but theirs
+      pub record StepByVerdicts (s s′ : Snapshot Block Pixel) (st : FinishedStep covers spare s s′) : Type 0 where
         pub checked : C .Checked (st .front)
-        pub turns : List (Turn Block)
-        pub each-child : map childOf turns ≡ C .children (st .front)
-        pub by-verdict : Every (Follows C) turns
-        pub skip-rule : SkipRule (s .cells) turns
-        pub these-events : st .events ≡ inTurn turns ++ afterwards turns
+        pub judgements : List (Judgement Block)
+        pub each-child : map judgedChild judgements ≡ C .children (st .front)
+        pub by-verdict : Every (Follows C) judgements
+        pub skip-rule : SkipRule (s .cells) judgements
+        pub these-events : st .events ≡ marksInOrder judgements ++ afterwards judgements
 
-      -- each turn of each step is such
-      unfoldable pub EveryTurn : (Turn Block → Type 0) → {n : ℕ} {s s′ : Snapshot Block Pixel} (r : FinishedSteps covers spare n s s′)
-          → EveryStep covers spare Judged r → Type 0
+      -- each judgement of each step is such
+      unfoldable pub EveryJudgement : (Judgement Block → Type 0) → {n : ℕ} {s s′ : Snapshot Block Pixel} (r : FinishedSteps covers spare n s s′)
+          → EveryStep covers spare StepByVerdicts r → Type 0
       unfolding EveryStep
-      EveryTurn P no-step j = Unit {0}
-      EveryTurn P (one-more r st) j = EveryTurn P r (j .0) × Every P (j .1 .turns)
+      EveryJudgement P no-step j = Unit {0}
+      EveryJudgement P (one-more r st) j = EveryJudgement P r (j .0) × Every P (j .1 .judgements)
 
   module _ (Q : Question Block Pixel) where
-    -- "every false verdict was right", if it was looked at
-    unfoldable pub FalseRight : Turn Block → Type 0
-    FalseRight (turn c v f) = ¬ (f ≡ skipped) → v ≡ saidFalse → NoneIn covers Q c
+    -- a false verdict was right, if it was looked at
+    unfoldable pub FalseRight : Judgement Block → Type 0
+    FalseRight (judgement c v f) = ¬ (f ≡ skipped) → v ≡ saidFalse → NoneIn covers Q c
 
-    -- "every mark was right"
-    unfoldable pub MarkRight : Turn Block → Type 0
-    MarkRight (turn c v f) = ¬ (f ≡ skipped) → v ≡ saidTrue → OneInEach covers Q c
+    -- a mark was right
+    unfoldable pub MarkRight : Judgement Block → Type 0
+    MarkRight (judgement c v f) = ¬ (f ≡ skipped) → v ≡ saidTrue → OneInEach covers Q c
 
--- "everything looked at on a pixel's level or below was decided": a child on level px or below it that was not skipped is told false or true
-unfoldable pub DecidedBelow : {Block : Type 0} → (Block → ℕ) → ℕ → Turn Block → Type 0
-DecidedBelow levelOf px (turn c v f) = ¬ (f ≡ skipped) → levelOf c ≤ px → ¬ (v ≡ saidOpen)
+-- everything looked at on a pixel's level or below was decided: a child on level px or below it that was not skipped is said to be false or true
+unfoldable pub DecidedBelow : {Block : Type 0} → (Block → ℕ) → ℕ → Judgement Block → Type 0
+DecidedBelow levelOf px (judgement c v f) = ¬ (f ≡ skipped) → levelOf c ≤ px → ¬ (v ≡ saidUndecided)

@@ -6,8 +6,8 @@ use mathlib.Core.Bool.{Bool, true, false}
 use mathlib.Core.List.{List, [], _∷_}
 use Prim.Native.Nat.{ℕ, zero, suc, _+_, _≤_}
 use lib.Dec.{T}
-use Rattle.theory.specs.Lists.{Every}
-use Rattle.theory.specs.Cells.{isTrue, PixelReading, standingReads}
+use Rattle.base.specs.Lists.{Every}
+use Rattle.theory.specs.Cells.{markedTrue, PixelReading, standingReads}
 use Rattle.theory.specs.Runs.{Snapshot, Event, marks, queues, givesUp, FinishedStep, FinishedSteps, no-step, one-more, EveryStep}
 
 -- "a pixel reads .."
@@ -50,14 +50,14 @@ module _ {Block Pixel : Type 0} (covers : Block → Pixel → Bool) where
   AllWhole (givesUp ∷ es) = AllWhole es
 
   module _ (spare : Bool) where
-    -- "was given up": one of the steps took a block that covers the pixel, and a child of that block found no direction
+    -- the pixel was given up: one of the steps took a block that covers the pixel, and a child of that block found no direction
     unfoldable pub WasGivenUp : {n : ℕ} {s s′ : Snapshot Block Pixel} → FinishedSteps covers spare n s s′ → Pixel → Type 0
     WasGivenUp no-step p = ⊥
     WasGivenUp (one-more r st) p = WasGivenUp r p ⊎ (T (anyGivesUp (st .events)) × T (covers (st .front) p))
 
     -- of a step that gives up: a child whose cells are all True is skipped, so a pixel of its block was not True
     unfoldable pub LooksBeforeGivingUp : (s s′ : Snapshot Block Pixel) → FinishedStep covers spare s s′ → Type 0
-    LooksBeforeGivingUp s s′ st = T (anyGivesUp (st .events)) → (q : Pixel) × T (covers (st .front) q) × (¬ (s .cells q ≡ isTrue))
+    LooksBeforeGivingUp s s′ st = T (anyGivesUp (st .events)) → (q : Pixel) × T (covers (st .front) q) × (¬ (s .cells q ≡ markedTrue))
 
     -- of a step that gives up: the cells that its block covers are alike
     unfoldable pub GivesUpAlike : (s s′ : Snapshot Block Pixel) → FinishedStep covers spare s s′ → Type 0
@@ -71,10 +71,10 @@ module _ {Block Pixel : Type 0} (covers : Block → Pixel → Bool) where
     unfoldable pub GivesUpOnePixel : (s s′ : Snapshot Block Pixel) → FinishedStep covers spare s s′ → Type 0
     GivesUpOnePixel s s′ st = T (anyGivesUp (st .events)) → CoversAtMostOne (st .front)
 
-    -- of a step that gives up: its block lies on level px or below it
-    unfoldable pub GivesUpBelow : (Block → ℕ) → ℕ → (s s′ : Snapshot Block Pixel) → FinishedStep covers spare s s′ → Type 0
-    GivesUpBelow levelOf px s s′ st = T (anyGivesUp (st .events)) → levelOf (st .front) ≤ px
-
     -- and where neither is, every block covers the whole picture
     unfoldable pub WholePicture : (s s′ : Snapshot Block Pixel) → FinishedStep covers spare s s′ → Type 0
     WholePicture s s′ st = ((p : Pixel) → T (covers (st .front) p)) × AllWhole (st .events)
+
+    -- of a step that gives up: its block lies on level px or below it
+    unfoldable pub GivesUpBelow : (Block → ℕ) → ℕ → (s s′ : Snapshot Block Pixel) → FinishedStep covers spare s s′ → Type 0
+    GivesUpBelow levelOf px s s′ st = T (anyGivesUp (st .events)) → levelOf (st .front) ≤ px

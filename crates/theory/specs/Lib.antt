@@ -1,5 +1,4 @@
 -- The abstract engine, and the words in which its promises are stated.
-pub mod Lists
 pub mod Cells
 pub mod Runs
 pub mod Demand3

@@ -5,7 +5,7 @@ use mathlib.Core.Logic.{_⊎_}
 use Prim.Native.Nat.{ℕ, zero, suc, _+_, _*_, _^_, _≤_, _<_}
 use lib.Dec.{T}
 use lib.Pow.{pow-pos}
-use Rattle.theory.specs.Levels.{Place}
+use Rattle.theory.specs.Levels.{BlockPlace}
 use Rattle.theory.specs.Shapes.{PixelIn, coversPixel, HalfOf}
 
 -- Lies i j x: position x lies in index i of level j. Below the pixel's level, what lies in an index lies in one of its halves; from there up, what
@@ -15,12 +15,12 @@ pub record Ruler (px : ℕ) {Position : Type 0} (Lies : ℕ → ℕ → Position
   pub whole : (i c j : ℕ) (x : Position) → px ≤ j → HalfOf i c → Lies c j x → Lies i (suc j) x
 
 -- a place holds the point (x, y) as one of pixel p
-unfoldable pub PlaceHolds : {X Y : Type 0} {w h : ℕ} (px : ℕ) (LiesX : ℕ → ℕ → X → Type 0) (LiesY : ℕ → ℕ → Y → Type 0) → X → Y → PixelIn w h → Place
+unfoldable pub PlaceHolds : {X Y : Type 0} {w h : ℕ} (px : ℕ) (LiesX : ℕ → ℕ → X → Type 0) (LiesY : ℕ → ℕ → Y → Type 0) → X → Y → PixelIn w h → BlockPlace
     → Type 0
 PlaceHolds px LiesX LiesY x y p b = (LiesX (b .x) (b .level) x × LiesY (b .y) (b .level) y) × T (coversPixel px b p)
 
 -- so does a strip's place, where only x is cut
-unfoldable pub StripHolds : {X : Type 0} {w : ℕ} (px : ℕ) (Lies : ℕ → ℕ → X → Type 0) → X → PixelIn w 1 → Place → Type 0
+unfoldable pub StripHolds : {X : Type 0} {w : ℕ} (px : ℕ) (Lies : ℕ → ℕ → X → Type 0) → X → PixelIn w 1 → BlockPlace → Type 0
 StripHolds px Lies x p b = Lies (b .x) (b .level) x × T (coversPixel px b p)
 
 -- ---- edges

@@ -9,8 +9,8 @@ use lib.Dec.{T}
 use lib.ListN.{length}
 pub use Rattle.base.specs.Event.{Event, marks, queues, givesUp}
 unfoldable pub use Rattle.base.specs.Event.{queuedBy}
-use Rattle.theory.specs.Lists.{Every}
-use Rattle.theory.specs.Cells.{Standing, isTrue, named, renamed, afterGivingUp}
+use Rattle.base.specs.Lists.{Every}
+use Rattle.theory.specs.Cells.{Standing, markedTrue, named, renamed, afterGivingUp}
 
 -- the engine between two steps: how many blocks were taken, those in the queue from the front, and what stands in each pixel's cell;
 -- the numbers of the queued blocks are taken, taken + 1, ..
@@ -43,7 +43,7 @@ module _ {Block Pixel : Type 0} (covers : Block → Pixel → Bool) where
     -- a pixel's cell after the events of the step that takes block b: t is b's number, m the next new one
     unfoldable pub cellAfter : ℕ → Block → ℕ → List (Event Block) → Pixel → Standing → Standing
     cellAfter t b m [] p v = v
-    cellAfter t b m (marks c ∷ es) p v = cellAfter t b m es p (cond (covers c p) isTrue v)
+    cellAfter t b m (marks c ∷ es) p v = cellAfter t b m es p (cond (covers c p) markedTrue v)
     cellAfter t b m (queues c ∷ es) p v = cellAfter t b (suc m) es p (cond (covers c p) (renamed t m v) v)
     cellAfter t b m (givesUp ∷ es) p v = cellAfter t b m es p (cond (covers b p) (afterGivingUp spare v) v)
 

@@ -19,20 +19,20 @@ use Rattle.base.proofs.Test.{cases, and-left, and-right, and-both}
 use Rattle.refusal.specs.declared.Refusal.the-variants as R
 use Rattle.refusal.specs.declared.Whether.the-variants as W
 use Rattle.refusal.specs.Number.{answered, whetherNumber}
-use Rattle.small.specs.declared.SmallRead.{SmallRead}
+use Rattle.small.specs.declared.ReadAnswer.{ReadAnswer}
 use Rattle.small.specs.Small.{codeOf, codeWith}
-use Rattle.small.specs.Answers.{codedNumber, smallReadNumber}
+use Rattle.small.specs.Answers.{codeNumber, readNumber}
 use Rattle.small.proofs.Writing.{tail-takes, code-refuses}
 use Rattle.small.proofs.Reading.{by-read}
 use Rattle.coordinate.specs.declared.Coordinate.{Coordinate}
 use Rattle.coordinate.specs.declared.PixelAnswer.the-variants as P
-use Rattle.coordinate.specs.declared.Halved.the-variants as H
+use Rattle.coordinate.specs.declared.HalvesAnswer.the-variants as H
 use Rattle.coordinate.specs.Axis.{level, ordinaryFloor, inRange, pixel, aboveFloor, inside}
 use Rattle.coordinate.specs.Lone.{legal, lowHalf, highHalf, pixelAsked, halvesAsked, subdivisibleAsked, insideAsked}
-use Rattle.coordinate.specs.Answers.{pixelNumber, halvedNumber}
+use Rattle.coordinate.specs.Answers.{pixelNumber, halvesNumber}
 use Rattle.coordinate.proofs.PixelLaws.{ranged, low-in-range}
 use Rattle.interval.specs.declared.Interval.{Interval}
-use Rattle.interval.specs.declared.FromBits.the-variants as B
+use Rattle.interval.specs.declared.BitsAnswer.the-variants as B
 use Rattle.interval.specs.Bounds.{InFormat, wholeBound, legalBounds, legalInterval, putInterval}
 use Rattle.interval.specs.Kinds.{midpointOf, cutPointOf}
 use Rattle.interval.specs.Cuts.{subdivisible, firstCut, laterCut}
@@ -55,14 +55,14 @@ given (inr (fails, z)) = ((λ e. absurd (omega (arith, z)), λ h. absurd (fails 
 
 -- ---- SMALL NUMBERS
 
-has-code : (x : ℕ) → x < 2 ^ 56 → codedNumber (codeOf x) ≡ 0
+has-code : (x : ℕ) → x < 2 ^ 56 → codeNumber (codeOf x) ≡ 0
 unfolding codeOf
-has-code x h = let (z, e, r) = tail-takes x h in ap (λ t. codedNumber (codeWith x t)) e
+has-code x h = let (z, e, r) = tail-takes x h in ap (λ t. codeNumber (codeWith x t)) e
 
 -- 9: "number to code over 2^56 - 1"
 pub write-nine : (x : ℕ) → GivenExactlyIf 9 (writeSays x .0) (2 ^ 56 - 1 < x)
 write-nine x = elim (decLt (2 ^ 56 - 1) x) [
-  | yes h ↦ given (inl (h, ap codedNumber (code-refuses x (omega arith))))
+  | yes h ↦ given (inl (h, ap codeNumber (code-refuses x (omega arith))))
   | no h ↦ given (inr (h, has-code x (omega arith)))
 ]
 
@@ -76,7 +76,7 @@ HeadIsZero s = (0 < length s) × (getD s 0 0 ≡ 0)
 -- 10: "a code's bytes end early"
 pub read-ten : (s : List ℕ) → (readSays s .0 ≡ 10) ↔ Ended s
 read-ten s =
-    by-read (λ (r : SmallRead). (smallReadNumber r ≡ 10) ↔ Ended s) s
+    by-read (λ (r : ReadAnswer). (readNumber r ≡ 10) ↔ Ended s) s
     (λ n. (λ e. inl n, λ h. refl))
     (λ n z. (λ e. absurd (omega arith), ⊎-elim (λ k. absurd (n k)) (λ k. absurd (k .0 z))))
     (λ n k. (λ e. inr (n, k), λ h. refl))
@@ -85,7 +85,7 @@ read-ten s =
 -- 11: "head byte 0"
 pub read-eleven : (s : List ℕ) → (readSays s .0 ≡ 11) ↔ HeadIsZero s
 read-eleven s =
-    by-read (λ (r : SmallRead). (smallReadNumber r ≡ 11) ↔ HeadIsZero s) s
+    by-read (λ (r : ReadAnswer). (readNumber r ≡ 11) ↔ HeadIsZero s) s
     (λ n. (λ e. absurd (omega arith), λ h. absurd (omega (arith, h .0))))
     (λ n z. (λ e. (omega (arith, n), z), λ h. refl))
     (λ n k. (λ e. absurd (omega arith), λ h. absurd (n (h .1))))
@@ -94,7 +94,7 @@ read-eleven s =
 -- and a number is read exactly if neither holds
 pub read-zero : (s : List ℕ) → (readSays s .0 ≡ 0) ↔ ((¬ Ended s) × (¬ HeadIsZero s))
 read-zero s =
-    by-read (λ (r : SmallRead). (smallReadNumber r ≡ 0) ↔ ((¬ Ended s) × (¬ HeadIsZero s))) s
+    by-read (λ (r : ReadAnswer). (readNumber r ≡ 0) ↔ ((¬ Ended s) × (¬ HeadIsZero s))) s
     (λ n. (λ e. absurd (omega arith), λ h. absurd (h .0 (inl n))))
     (λ n z. (λ e. absurd (omega arith), λ h. absurd (h .1 (omega (arith, n), z))))
     (λ n k. (λ e. absurd (omega arith), λ h. absurd (h .0 (inr (n, k)))))
@@ -289,6 +289,6 @@ unfolding halvesAsked
 halves-eight c = go (legal ordinaryFloor c && (aboveFloor ordinaryFloor (c .rank) && legal ordinaryFloor (highHalf c))) refl
   where
     go : (t : Bool) → legal ordinaryFloor c && (aboveFloor ordinaryFloor (c .rank) && legal ordinaryFloor (highHalf c)) ≡ t
-        → GivenExactlyIf 8 (halvedNumber (cond t (H.Halves (lowHalf c) (highHalf c)) (H.Refused R.Damaged))) (SomeOutside c)
+        → GivenExactlyIf 8 (halvesNumber (cond t (H.Halves (lowHalf c) (highHalf c)) (H.Refused R.Damaged))) (SomeOutside c)
     go true e = given (inr (none-outside c e, refl))
     go false e = given (inl (some-outside c e, refl))

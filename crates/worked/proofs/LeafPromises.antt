@@ -13,24 +13,25 @@ use lib.Ieee.Bits.{ofBits-fits}
 use borrow.Author.Tests.{ltb-true, le-leb, lt-ltb}
 use Rattle.base.specs.Bytes.{littleEndian}
 use Rattle.base.proofs.Test.{and-both, cond-yes}
+use Rattle.base.specs.Lists.{Every}
 use Rattle.refusal.specs.declared.Refusal.the-variants as R
 use Rattle.refusal.specs.declared.Whether.the-variants as W
 use Rattle.refusal.specs.Number.{answered, whetherNumber, whetherValue}
-use Rattle.small.specs.declared.SmallRead.{SmallRead}
+use Rattle.small.specs.declared.ReadAnswer.{ReadAnswer}
 use Rattle.small.specs.Small.{smallCode, longCode}
-use Rattle.small.specs.Answers.{smallReadNumber, smallReadValue, smallReadCount}
+use Rattle.small.specs.Answers.{readNumber, readValue, readCount}
 use Rattle.small.proofs.Writing.{length-long, length-upto}
 use Rattle.small.proofs.Reading.{read-long, read-written, read-first}
 use Rattle.coordinate.specs.declared.Coordinate.{Coordinate}
 use Rattle.coordinate.specs.declared.PixelAnswer.{PixelAnswer}
 use Rattle.coordinate.specs.declared.PixelAnswer.the-variants as P
-use Rattle.coordinate.specs.declared.Halved.the-variants as H
+use Rattle.coordinate.specs.declared.HalvesAnswer.the-variants as H
 use Rattle.coordinate.specs.Axis.{level, ordinaryFloor, inRange, pixelAtLevel, pixel, aboveFloor, inside}
 use Rattle.coordinate.specs.Lone.{legal, lowHalf, highHalf, pixelAsked, halvesAsked, subdivisibleAsked, insideAsked}
-use Rattle.coordinate.specs.Answers.{pixelNumber, pixelValue, halvedNumber}
+use Rattle.coordinate.specs.Answers.{pixelNumber, pixelValue, halvesNumber}
 use Rattle.coordinate.proofs.PixelLaws.{ranged, pixel-level, inside-pixel}
 use Rattle.interval.specs.declared.Interval.{Interval}
-use Rattle.interval.specs.declared.FromBits.{FromBits}
+use Rattle.interval.specs.declared.BitsAnswer.{BitsAnswer}
 use Rattle.interval.specs.Bounds.{InFormat, inUnits, wholeBound, legalInterval, putInterval, sameInterval}
 use Rattle.interval.specs.Kinds.{midpointOf, cutPointOf}
 use Rattle.interval.specs.Cuts.{subdivisible, firstCut, laterCut}
@@ -39,7 +40,7 @@ use Rattle.interval.specs.Answers.{pointAnswer, whetherAt, piecesAt, pointNumbe
 use Rattle.interval.proofs.Zeros.{as-le-left, as-le-right}
 use Rattle.interval.proofs.Legality.{put-again, put-legal}
 use Rattle.interval.proofs.Sameness.{same-put, same-is}
-use Rattle.interval.proofs.ProperPieces.{Proper, Each, put-format}
+use Rattle.interval.proofs.ProperPieces.{Proper, put-format}
 use Rattle.interval.proofs.FractionInside.{fraction-inside}
 use Rattle.interval.proofs.MiddleInside.{middle-inside}
 use Rattle.interval.proofs.CutPoint.{cut-good}
@@ -96,7 +97,7 @@ cut-point-between x integer f h =
 
 -- one to three pieces, each legal, with its zeros put (`Proper`)
 abbrev pub CutWell : Bool → List Interval → Type 0
-CutWell integer l = Each (Proper integer) l × (1 ≤ length l) × (length l ≤ 3)
+CutWell integer l = Every (Proper integer) l × (1 ≤ length l) × (length l ≤ 3)
 
 -- "First cut: [a,a], [a,b], [b,b] without illegal ones"
 pub first-pieces : (x : Interval) (integer : Bool) → InFormat x → legalInterval x integer ≡ true → CutWell integer (firstCutSays integer x .1)
@@ -113,8 +114,8 @@ later-pieces x integer f h =
 -- ---- CODES
 
 -- what an answer of the reader says
-abbrev said : SmallRead → ℕ × ℕ × ℕ
-said r = (smallReadNumber r, smallReadValue r, smallReadCount r)
+abbrev said : ReadAnswer → ℕ × ℕ × ℕ
+said r = (readNumber r, readValue r, readCount r)
 
 -- "longer codes than needed are read", whatever follows them
 pub longer-read : (z x : ℕ) (rest : List ℕ) → z ≤ 7 → x < 2 ^ (7 * (z + 1)) → readSays (longCode z x ++ rest) ≡ (0, x, z + 1)
@@ -178,13 +179,13 @@ divisible-by-cut x integer f h =
 -- an interval handed in, or read from the bit patterns that `bits_of` gives of its bounds
 pub bits-alike : (x : Interval) (integer : Bool) → InFormat x → legalInterval x integer ≡ true → putInterval x ≡ x
     → fromBitsSays integer (toBits binary64 (x .lower)) (toBits binary64 (x .upper)) ≡ (0, x)
-bits-alike x integer f h p = ap (λ (a : FromBits). (fromBitsNumber a, fromBitsValue a)) (read-back x integer f h p)
+bits-alike x integer f h p = ap (λ (a : BitsAnswer). (fromBitsNumber a, fromBitsValue a)) (read-back x integer f h p)
 
 -- a code read from all the bytes that follow, or from the first eight or more
 pub eight-enough : (k : ℕ) (s : List ℕ) → 8 ≤ k → getD s 0 0 < 256 → readSays (take k s) ≡ readSays s
 eight-enough k s h b = ap said (read-first k s h b)
 
--- "Its pixel is i times 2^k uncut, or i / 2^(-k) rounded down": by the signed level, or by the one formula on the rank
+-- "Its pixel is i times 2^k uncut ... or i / 2^(-k) rounded down": by the signed level, or by the one formula on the rank
 pub pixel-by-level : (c : Coordinate) → legal ordinaryFloor c ≡ true → pixelSays c ≡ (0, pixelAtLevel (level (c .rank)) (c .index))
 unfolding pixelAsked
 pixel-by-level c h =
@@ -217,7 +218,7 @@ unfolding halvesAsked subdivisibleAsked
 halves-if-halvable c h i = go (aboveFloor ordinaryFloor (c .rank)) refl
   where
     go : (t : Bool) → aboveFloor ordinaryFloor (c .rank) ≡ t
-        → (halvedNumber (cond (legal ordinaryFloor c && (t && legal ordinaryFloor (highHalf c))) (H.Halves (lowHalf c) (highHalf c)) (H.Refused R.Damaged)) ≡ 0)
+        → (halvesNumber (cond (legal ordinaryFloor c && (t && legal ordinaryFloor (highHalf c))) (H.Halves (lowHalf c) (highHalf c)) (H.Refused R.Damaged)) ≡ 0)
         ↔ (whetherValue (cond (legal ordinaryFloor c) (answered t) (W.Refused R.Damaged)) ≡ 1)
     go true e = rw (h, high-legal c h i e) (λ _. refl, λ _. refl)
     go false e = rw h (λ z. absurd (omega arith), λ z. absurd (omega arith))

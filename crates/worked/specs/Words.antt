@@ -6,11 +6,11 @@ use Prim.Native.Nat.{ℕ}
 use lib.Ieee.{Float, binary64, ofBits}
 use Rattle.refusal.specs.Number.{whetherNumber, whetherValue}
 use Rattle.small.specs.Small.{codeOf, codeBytes, readSmall}
-use Rattle.small.specs.Answers.{codedNumber, smallReadNumber, smallReadValue, smallReadCount}
+use Rattle.small.specs.Answers.{codeNumber, readNumber, readValue, readCount}
 use Rattle.coordinate.specs.declared.Coordinate.{Coordinate}
 use Rattle.coordinate.specs.Axis.{ordinaryFloor}
 use Rattle.coordinate.specs.Lone.{pixelAsked, halvesAsked, subdivisibleAsked, insideAsked}
-use Rattle.coordinate.specs.Answers.{pixelNumber, pixelValue, halvedNumber, halvedLow, halvedHigh}
+use Rattle.coordinate.specs.Answers.{pixelNumber, pixelValue, halvesNumber, halvesLow, halvesHigh}
 use Rattle.interval.specs.declared.Interval.{Interval}
 use Rattle.interval.specs.Bounds.{legalInterval, putInterval}
 use Rattle.interval.specs.Kinds.{midpointOf, cutPointOf}
@@ -22,11 +22,11 @@ use Rattle.interval.specs.Answers.{pointNumber, pointValue, piecesNumber, piece
 -- SMALL NUMBERS
 -- `write_small`: the number, and the code's bytes
 abbrev pub writeSays : ℕ → ℕ × List ℕ
-writeSays x = let a = codeOf x in (codedNumber a, codeBytes a)
+writeSays x = let a = codeOf x in (codeNumber a, codeBytes a)
 
 -- `read_small`: the number, what was read, and how many bytes it takes
 abbrev pub readSays : List ℕ → ℕ × ℕ × ℕ
-readSays s = let a = readSmall s in (smallReadNumber a, smallReadValue a, smallReadCount a)
+readSays s = let a = readSmall s in (readNumber a, readValue a, readCount a)
 
 -- COORDINATES
 -- `pixel_index`: the number, and the pixel
@@ -35,7 +35,7 @@ pixelSays c = let a = pixelAsked ordinaryFloor c in (pixelNumber a, pixelValue a
 
 -- `subdivide`: the number, and the two halves
 abbrev pub halvesSays : Coordinate → ℕ × Coordinate × Coordinate
-halvesSays c = let a = halvesAsked ordinaryFloor c in (halvedNumber a, halvedLow a, halvedHigh a)
+halvesSays c = let a = halvesAsked ordinaryFloor c in (halvesNumber a, halvesLow a, halvesHigh a)
 
 -- `is_subdivisible` of a coordinate: the number, and 1 for yes
 abbrev pub halvableSays : Coordinate → ℕ × ℕ

@@ -2,7 +2,7 @@
 use mathlib.Core.Path.{sym, ap, _∙_}
 use borrow.Author.Needs.{needs}
 use lib.ListN.{length}
-use Rattle.image.specs.declared.TallyAnswer.the-variants as A
+use Rattle.image.specs.declared.CellTallyAnswer.the-variants as A
 use Rattle.image.proofs.RangeLaws.{ready-rows}
 use Rattle.image.proofs.CountLaws.{tally-outside, tally-answered}
 use Rattle.image.proofs.count.Statement.{statement}

@@ -10,8 +10,8 @@ use Rattle.image.proofs.draw.Tie as tie
 smaller-requires : tie.Need-smaller-requires
 smaller-requires c κs = search needs
 
-draw-run-requires : tie.Need-draw-run-requires
-draw-run-requires c κs = search needs
+draw-stretch-requires : tie.Need-draw-stretch-requires
+draw-stretch-requires c κs = search needs
 
 same-length : tie.Need-same-length
 same-length c = search needs
@@ -21,7 +21,7 @@ returns c =
     let t = c .before .before .before .before .before in
     let a = t .before .before .before .args in
     let m = c .before .before .before .before .smaller in
-    let d = c .before .before .draw-run in (
+    let d = c .before .before .draw-stretch in (
       sym (eq-eqb (length (a .cells .now)) (length (a .out .now)) (t .if1 .taken)),
       drawn-done (a .taken) (m .result) (a .cells .now) (a .out .now) (d .last .1 .1 .0) (t .if1 .taken) (m .ensures) (d .ensures),
     )
@@ -33,4 +33,4 @@ returns-2 c =
     (sym e, drawn-not (a .taken) (a .cells .now) (a .out .now) e)
 
 pub draw-spec : {M : Type 1} → statement M
-draw-spec = tie.close (tie.spec smaller-requires draw-run-requires same-length returns returns-2)
+draw-spec = tie.close (tie.spec smaller-requires draw-stretch-requires same-length returns returns-2)

@@ -6,7 +6,8 @@ use native.Mathlib.Omega.{arith}
 use borrow.Author.Needs.{needs}
 use denote.Ref.{now}
 use lib.ListN.{length, length-map}
-use Rattle.plan.specs.AtOnce.{unjudged, blocksIn}
+use Rattle.plan.specs.AtOnce.{blocksIn}
+use Rattle.plan.specs.PlanComputed.{unjudged}
 use Rattle.plan.proofs.JudgeLaws.{judgedFrom, judgedOn, judge-start, judge-on, judge-end, judged-few}
 use Rattle.plan.proofs.PlanLaws.{listed-as, four-noted}
 use Rattle.plan.proofs.plan_children.Statement.{statement}

@@ -4,7 +4,7 @@ use mathlib.Core.Path.{_≡_, refl, _∙_}
 use Prim.Native.Nat.{_-_, _≤_}
 use native.Mathlib.Omega.{arith}
 use borrow.Author.Needs.{needs}
-use Rattle.plan.specs.AtOnce.{queuedOnes, turnedFrom}
+use Rattle.plan.specs.PlanComputed.{queuedOnes, turnedFrom}
 use Rattle.plan.proofs.JudgeLaws.{turnedOn, turn-on, turn-end, queued-one, queued-few, turned-as}
 use Rattle.plan.proofs.turn_children.Statement.{statement}
 use Rattle.plan.proofs.turn_children.Tie as tie

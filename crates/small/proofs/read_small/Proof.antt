@@ -6,7 +6,7 @@ use borrow.Author.Needs.{needs}
 use native.Mathlib.Omega.{arith}
 use lib.Count.{trailing-le}
 use lib.ListN.{getD, length-take}
-use Rattle.small.specs.declared.SmallRead.the-variants as S
+use Rattle.small.specs.declared.ReadAnswer.the-variants as S
 use Rattle.small.proofs.Reading.{AreBytes, zerosOf, valueOf, zeros-few, read-none, read-zero, read-short, read-whole, value-fits, joined}
 use Rattle.small.proofs.read_small.Statement.{statement}
 use Rattle.small.proofs.read_small.Tie as tie

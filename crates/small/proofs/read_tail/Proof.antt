@@ -27,7 +27,7 @@ shared-slice-read-wide c = omega arith
 wide-requires : tie.Need-wide-requires Inv-loop μ-loop
 wide-requires c κs = search needs
 
--- the byte of this turn
+-- the byte of this pass
 byte : (c : tie.After-wide Inv-loop μ-loop) → c .wide .result < 256
 byte c = omega (arith, c .before .shared-slice-known2 .given (c .before .before .before .loop .i - 1))
 

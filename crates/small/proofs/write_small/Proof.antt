@@ -5,7 +5,7 @@ use borrow.Author.Needs.{needs}
 use native.Mathlib.Omega.{arith}
 use lib.Pow.{mod-mod-pow}
 use Rattle.small.specs.declared.Tail.the-variants as T
-use Rattle.small.specs.declared.Coded.the-variants as C
+use Rattle.small.specs.declared.CodeAnswer.the-variants as C
 use Rattle.small.specs.Small.{tailNumber, tailOf, codeOf, codeWith}
 use Rattle.small.proofs.Writing.{InRange, bytes-right, under-56}
 use Rattle.small.proofs.write_small.Statement.{statement}

@@ -1,17 +1,17 @@
 -- `engine::smyrilox_counts` meets its contract. Assumes nothing.
 use mathlib.Core.Path.{_∙_, ap}
-use Rattle.capi.specs.Engine.{countsTold}
+use Rattle.capi.specs.Engine.{countsRecord}
 use Rattle.capi.proofs.engine.smyrilox_counts.Statement.{statement}
 use Rattle.capi.proofs.engine.smyrilox_counts.Tie as tie
 
 counts-requires : tie.Need-counts-requires
 counts-requires c κs = tt
 
-tell-counts-requires : tie.Need-tell-counts-requires
-tell-counts-requires c κs = tt
+counts-record-requires : tie.Need-counts-record-requires
+counts-record-requires c κs = tt
 
 returns : tie.Need-returns
-returns c = c .tell-counts .ensures ∙ ap countsTold (c .before .counts .ensures)
+returns c = c .counts-record .ensures ∙ ap countsRecord (c .before .counts .ensures)
 
 pub smyrilox-counts-spec : {M : Type 1} → statement M
-smyrilox-counts-spec = tie.close (tie.spec counts-requires tell-counts-requires returns)
+smyrilox-counts-spec = tie.close (tie.spec counts-requires counts-record-requires returns)

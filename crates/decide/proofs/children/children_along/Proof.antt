@@ -9,31 +9,41 @@ enum-told : tie.Need-enum-told
 enum-told c = search needs
 
 children-xy-requires : tie.Need-children-xy-requires
-children-xy-requires c κs = (c .before .before .pre .0, cut-along (c .before .before .args .p) (c .before .before .args .b) (c .before .before .args .d) (c .before .before .pre .0) (c .before .before .pre .1) (c .enum-told .given .1))
+children-xy-requires c κs =
+    let s = c .before .before in
+    (s .pre .0, cut-along (s .args .p) (s .args .b) (s .args .d) (s .pre .0) (s .pre .1) (c .enum-told .given .1))
 
 enum-told-2 : tie.Need-enum-told-2
 enum-told-2 c = search needs
 
 children-cut-requires : tie.Need-children-cut-requires
-children-cut-requires c κs = m-legal (c .before .before .args .p) (c .before .before .args .b) (c .before .before .args .d) (c .before .before .pre .0) (c .enum-told2 .given .1)
+children-cut-requires c κs =
+    let s = c .before .before in
+    m-legal (s .args .p) (s .args .b) (s .args .d) (s .pre .0) (c .enum-told2 .given .1)
 
 enum-told-3 : tie.Need-enum-told-3
 enum-told-3 c = search needs
 
 children-cut-requires-2 : tie.Need-children-cut-requires-2
-children-cut-requires-2 c κs = n-legal (c .before .before .args .p) (c .before .before .args .b) (c .before .before .args .d) (c .before .before .pre .0) (c .enum-told3 .given .1)
+children-cut-requires-2 c κs =
+    let s = c .before .before in
+    n-legal (s .args .p) (s .args .b) (s .args .d) (s .pre .0) (c .enum-told3 .given .1)
 
 enum-told-4 : tie.Need-enum-told-4
 enum-told-4 c = search needs
 
 children-cut-requires-3 : tie.Need-children-cut-requires-3
-children-cut-requires-3 c κs = theta-legal (c .before .before .args .p) (c .before .before .args .b) (c .before .before .args .d) (c .before .before .pre .0) (c .enum-told4 .given .1)
+children-cut-requires-3 c κs =
+    let s = c .before .before in
+    theta-legal (s .args .p) (s .args .b) (s .args .d) (s .pre .0) (c .enum-told4 .given .1)
 
 enum-told-5 : tie.Need-enum-told-5
 enum-told-5 c = search needs
 
 children-cut-requires-4 : tie.Need-children-cut-requires-4
-children-cut-requires-4 c κs = t-legal (c .before .before .args .p) (c .before .before .args .b) (c .before .before .args .d) (c .before .before .pre .0) (c .enum-told5 .given .1)
+children-cut-requires-4 c κs =
+    let s = c .before .before in
+    t-legal (s .args .p) (s .args .b) (s .args .d) (s .pre .0) (c .enum-told5 .given .1)
 
 returns : tie.Need-returns
 returns c = c .children-xy .ensures ∙ rw (c .before .enum-told .given .1)

@@ -2,7 +2,7 @@
 use mathlib.Core.Path.{_∙_}
 use borrow.Author.Needs.{needs}
 use Rattle.decide.proofs.ListingLaws.{pieces-listed}
-use Rattle.interval.specs.declared.Pieces.the-variants as C
+use Rattle.interval.specs.declared.PiecesAnswer.the-variants as C
 use Rattle.decide.proofs.children.children_cut.Statement.{statement}
 use Rattle.decide.proofs.children.children_cut.Tie as tie
 
@@ -58,16 +58,57 @@ no-child-requires : tie.Need-no-child-requires
 no-child-requires c κs = tt
 
 returns : tie.Need-returns
-returns c = (c .list-one .ensures) ∙ rw (c .before .with-parameter .ensures) (pieces-listed (c .before .before .before .before .before .before .before .before .args .b) (c .before .before .before .before .before .before .before .before .args .d) (c .before .before .before .before .before .before .before .parameter-of .result) (c .before .before .before .before .before .before .is-integer .result) (c .before .before .before .before .before .later-cut .result) (C.One (c .before .before .before .p .given .0 .0)) (c .before .before .before .before .before .before .before .parameter-of .ensures) (c .before .before .before .before .before .before .is-integer .ensures) (c .before .before .before .before .before .before .before .before .pre) (c .before .before .before .before .before .later-cut .ensures) (c .before .before .before .p .given .1))
+returns c =
+    let w = c .before in
+    let k = w .before .before in
+    let l = k .before .before in
+    let i = l .before in
+    let x = i .before in
+    let s = x .before in
+    c .list-one .ensures ∙ rw (w .with-parameter .ensures)
+    (pieces-listed (s .args .b) (s .args .d) (x .parameter-of .result) (i .is-integer .result) (l .later-cut .result)
+    (C.One (k .p .given .0 .0))
+    (x .parameter-of .ensures) (i .is-integer .ensures) (s .pre) (l .later-cut .ensures) (k .p .given .1))
 
 returns-2 : tie.Need-returns-2
-returns-2 c = (c .list-two .ensures) ∙ rw ((c .before .before .with-parameter2 .ensures), (c .before .with-parameter3 .ensures)) (pieces-listed (c .before .before .before .before .before .before .before .before .before .args .b) (c .before .before .before .before .before .before .before .before .before .args .d) (c .before .before .before .before .before .before .before .before .parameter-of .result) (c .before .before .before .before .before .before .before .is-integer .result) (c .before .before .before .before .before .before .later-cut .result) (C.Two (c .before .before .before .before .p2 .given .0 .0) (c .before .before .before .before .p2 .given .0 .1 .0)) (c .before .before .before .before .before .before .before .before .parameter-of .ensures) (c .before .before .before .before .before .before .before .is-integer .ensures) (c .before .before .before .before .before .before .before .before .before .pre) (c .before .before .before .before .before .before .later-cut .ensures) (c .before .before .before .before .p2 .given .1))
+returns-2 c =
+    let w = c .before in
+    let v = w .before in
+    let k = v .before .before in
+    let l = k .before .before in
+    let i = l .before in
+    let x = i .before in
+    let s = x .before in
+    c .list-two .ensures ∙ rw (v .with-parameter2 .ensures, w .with-parameter3 .ensures)
+    (pieces-listed (s .args .b) (s .args .d) (x .parameter-of .result) (i .is-integer .result) (l .later-cut .result)
+    (C.Two (k .p2 .given .0 .0) (k .p2 .given .0 .1 .0))
+    (x .parameter-of .ensures) (i .is-integer .ensures) (s .pre) (l .later-cut .ensures) (k .p2 .given .1))
 
 returns-3 : tie.Need-returns-3
-returns-3 c = (c .list-three .ensures) ∙ rw ((c .before .before .before .with-parameter4 .ensures), (c .before .before .with-parameter5 .ensures), (c .before .with-parameter6 .ensures)) (pieces-listed (c .before .before .before .before .before .before .before .before .before .before .args .b) (c .before .before .before .before .before .before .before .before .before .before .args .d) (c .before .before .before .before .before .before .before .before .before .parameter-of .result) (c .before .before .before .before .before .before .before .before .is-integer .result) (c .before .before .before .before .before .before .before .later-cut .result) (C.Three (c .before .before .before .before .before .p3 .given .0 .0) (c .before .before .before .before .before .p3 .given .0 .1 .0) (c .before .before .before .before .before .p3 .given .0 .1 .1 .0)) (c .before .before .before .before .before .before .before .before .before .parameter-of .ensures) (c .before .before .before .before .before .before .before .before .is-integer .ensures) (c .before .before .before .before .before .before .before .before .before .before .pre) (c .before .before .before .before .before .before .before .later-cut .ensures) (c .before .before .before .before .before .p3 .given .1))
+returns-3 c =
+    let w = c .before in
+    let v = w .before in
+    let u = v .before in
+    let k = u .before .before in
+    let l = k .before .before in
+    let i = l .before in
+    let x = i .before in
+    let s = x .before in
+    c .list-three .ensures ∙ rw (u .with-parameter4 .ensures, v .with-parameter5 .ensures, w .with-parameter6 .ensures)
+    (pieces-listed (s .args .b) (s .args .d) (x .parameter-of .result) (i .is-integer .result) (l .later-cut .result)
+    (C.Three (k .p3 .given .0 .0) (k .p3 .given .0 .1 .0) (k .p3 .given .0 .1 .1 .0))
+    (x .parameter-of .ensures) (i .is-integer .ensures) (s .pre) (l .later-cut .ensures) (k .p3 .given .1))
 
 returns-4 : tie.Need-returns-4
-returns-4 c = (c .no-child .ensures) ∙ pieces-listed (c .before .before .before .before .before .before .args .b) (c .before .before .before .before .before .before .args .d) (c .before .before .before .before .before .parameter-of .result) (c .before .before .before .before .is-integer .result) (c .before .before .before .later-cut .result) (_) (c .before .before .before .before .before .parameter-of .ensures) (c .before .before .before .before .is-integer .ensures) (c .before .before .before .before .before .before .pre) (c .before .before .before .later-cut .ensures) (c .before .enum-told .given .1)
+returns-4 c =
+    let k = c .before in
+    let l = k .before .before in
+    let i = l .before in
+    let x = i .before in
+    let s = x .before in
+    c .no-child .ensures
+    ∙ pieces-listed (s .args .b) (s .args .d) (x .parameter-of .result) (i .is-integer .result) (l .later-cut .result) _
+    (x .parameter-of .ensures) (i .is-integer .ensures) (s .pre) (l .later-cut .ensures) (k .enum-told .given .1)
 
 pub children-cut-spec : {M : Type 1} → statement M
 children-cut-spec =

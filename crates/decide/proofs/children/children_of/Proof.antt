@@ -19,7 +19,14 @@ enum-known-d : tie.Need-enum-known-d
 enum-known-d c = search needs
 
 children-along-requires : tie.Need-children-along-requires
-children-along-requires c κs = (rw (← (c .before .before .before .before .before .before .is-legal-chosen .ensures), ← (c .before .before .before .before .before .is-undamaged .ensures)) (c .before .before .before .before .if1 .taken), sym (c .before .before .before .direction-at .ensures) ∙ (c .before .d .given .1))
+children-along-requires c κs =
+    let k = c .before in
+    let t = k .before .before in
+    let i = t .before in
+    let u = i .before in (
+      rw (← (u .before .is-legal-chosen .ensures), ← (u .is-undamaged .ensures)) (i .if1 .taken),
+      sym (t .direction-at .ensures) ∙ k .d .given .1,
+    )
 
 enum-told : tie.Need-enum-told
 enum-told c = search needs
@@ -28,16 +35,43 @@ list-one-requires : tie.Need-list-one-requires
 list-one-requires c κs = tt
 
 returns : tie.Need-returns
-returns c = children-sound (c .before .before .before .before .before .before .before .before .args .p) (c .before .before .before .before .before .before .before .before .args .b) (A.Along (c .before .before .d .given .0 .0)) (c .children-along .result) (rw (← (c .before .before .before .before .before .before .before .is-legal-chosen .ensures), ← (c .before .before .before .before .before .before .is-undamaged .ensures)) (c .before .before .before .before .before .if1 .taken)) (sym (c .before .before .d .given .1) ∙ (c .before .before .before .before .direction-at .ensures)) (c .children-along .ensures)
+returns c =
+    let k = c .before .before in
+    let t = k .before .before in
+    let i = t .before in
+    let u = i .before in
+    let l = u .before in
+    let a = l .before .args in
+    children-sound (a .p) (a .b) (A.Along (k .d .given .0 .0)) (c .children-along .result)
+    (rw (← (l .is-legal-chosen .ensures), ← (u .is-undamaged .ensures)) (i .if1 .taken))
+    (sym (k .d .given .1) ∙ t .direction-at .ensures)
+    (c .children-along .ensures)
 
 returns-2 : tie.Need-returns-2
-returns-2 c = children-sound (c .before .before .before .before .before .before .before .args .p) (c .before .before .before .before .before .before .before .args .b) A.Beyond (c .list-one .result) (rw (← (c .before .before .before .before .before .before .is-legal-chosen .ensures), ← (c .before .before .before .before .before .is-undamaged .ensures)) (c .before .before .before .before .if1 .taken)) (sym (c .before .enum-told .given .1) ∙ (c .before .before .before .direction-at .ensures)) (c .list-one .ensures)
+returns-2 c =
+    let k = c .before in
+    let t = k .before .before in
+    let i = t .before in
+    let u = i .before in
+    let l = u .before in
+    let a = l .before .args in
+    children-sound (a .p) (a .b) A.Beyond (c .list-one .result)
+    (rw (← (l .is-legal-chosen .ensures), ← (u .is-undamaged .ensures)) (i .if1 .taken))
+    (sym (k .enum-told .given .1) ∙ t .direction-at .ensures)
+    (c .list-one .ensures)
 
 no-child-requires : tie.Need-no-child-requires
 no-child-requires c κs = tt
 
 returns-3 : tie.Need-returns-3
-returns-3 c = children-none (c .before .before .before .before .args .p) (c .before .before .before .before .args .b) (c .no-child .result) (rw (← (c .before .before .before .is-legal-chosen .ensures), ← (c .before .before .is-undamaged .ensures)) (c .before .if1 .left)) (c .no-child .ensures)
+returns-3 c =
+    let i = c .before in
+    let u = i .before in
+    let l = u .before in
+    let a = l .before .args in
+    children-none (a .p) (a .b) (c .no-child .result)
+    (rw (← (l .is-legal-chosen .ensures), ← (u .is-undamaged .ensures)) (i .if1 .left))
+    (c .no-child .ensures)
 
 pub children-of-spec : {M : Type 1} → statement M
 children-of-spec =

@@ -14,10 +14,18 @@ enum-told : tie.Need-enum-told
 enum-told c = search needs
 
 returns : tie.Need-returns
-returns c = halves-known (c .before .before .before .before .args .c) (c .before .before .before .subdivide .result) (c .before .low .given .0 .0) (c .before .low .given .0 .1 .0) (c .before .before .before .before .pre) (c .before .before .before .subdivide .ensures) (c .before .low .given .1)
+returns c =
+    let l = c .before in
+    let h = l .before .before in
+    let s = h .before in
+    halves-known (s .args .c) (h .subdivide .result) (l .low .given .0 .0) (l .low .given .0 .1 .0)
+    (s .pre) (h .subdivide .ensures) (l .low .given .1)
 
 returns-2 : tie.Need-returns-2
-returns-2 c = halves-not-refused (c .before .before .before .args .c) (c .before .before .subdivide .result) _ (c .before .before .before .pre) (c .before .before .subdivide .ensures) (c .enum-told .given .1)
+returns-2 c =
+    let h = c .before .before in
+    let s = h .before in
+    halves-not-refused (s .args .c) (h .subdivide .result) _ (s .pre) (h .subdivide .ensures) (c .enum-told .given .1)
 
 pub halves-of-spec : {M : Type 1} → statement M
 halves-of-spec = tie.close (tie.spec subdivide-requires enum-known-low enum-told returns returns-2)

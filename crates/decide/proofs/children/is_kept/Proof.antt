@@ -7,7 +7,9 @@ is-placed-requires : tie.Need-is-placed-requires
 is-placed-requires c κs = tt
 
 returns : tie.Need-returns
-returns c = kept-as (c .before .args .rank) (c .before .args .c) (c .before .args .side) (c .is-placed .result) (c .before .pre) (c .is-placed .ensures)
+returns c =
+    let s = c .before in
+    kept-as (s .args .rank) (s .args .c) (s .args .side) (c .is-placed .result) (s .pre) (c .is-placed .ensures)
 
 pub is-kept-spec : {M : Type 1} → statement M
 is-kept-spec =

@@ -7,11 +7,14 @@ use Rattle.decide.proofs.damage.has_damaged_cell.Tie as tie
 rectangle-requires : tie.Need-rectangle-requires
 rectangle-requires c κs = tt
 
-is-one-requires : tie.Need-is-one-requires
-is-one-requires c κs = tt
+rectangle-holds-requires : tie.Need-rectangle-holds-requires
+rectangle-holds-requires c κs = tt
 
 returns : tie.Need-returns
-returns c = damage-as (c .before .before .before .args .p) (c .before .before .before .args .b) (now (c .before .before .before .args .cells)) (c .before .rectangle .result) (c .is-one .result) (c .before .rectangle .ensures) (c .is-one .ensures)
+returns c =
+    let r = c .before .rectangle in
+    let a = c .before .before .before .args in
+    damage-as (a .p) (a .b) (now (a .cells)) (r .result) (c .rectangle-holds .result) (r .ensures) (c .rectangle-holds .ensures)
 
 pub has-damaged-cell-spec : {M : Type 1} → statement M
-has-damaged-cell-spec = tie.close (tie.spec rectangle-requires is-one-requires returns)
+has-damaged-cell-spec = tie.close (tie.spec rectangle-requires rectangle-holds-requires returns)

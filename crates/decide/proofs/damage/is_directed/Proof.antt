@@ -20,10 +20,20 @@ direction-count-requires : tie.Need-direction-count-requires
 direction-count-requires c κs = tt
 
 returns : tie.Need-returns
-returns c = directed-along (c .before .before .before .before .before .args .p) (c .before .before .before .before .before .args .b) (c .before .before .before .before .direction-at .result) (c .before .before .d .given .0 .0) (c .is-cuttable .result) (c .before .before .before .before .direction-at .ensures) (c .before .before .d .given .1) (c .is-cuttable .ensures)
+returns c =
+    let k = c .before .before in
+    let t = k .before .before in
+    let a = t .before .args in
+    directed-along (a .p) (a .b) (t .direction-at .result) (k .d .given .0 .0) (c .is-cuttable .result)
+    (t .direction-at .ensures) (k .d .given .1) (c .is-cuttable .ensures)
 
 returns-2 : tie.Need-returns-2
-returns-2 c = directed-beyond (c .before .before .before .before .before .args .p) (c .before .before .before .before .before .args .b) (c .before .before .before .before .direction-at .result) (c .before .direction-count .result) (c .before .before .before .before .direction-at .ensures) (c .before .before .enum-told .given .1) (c .before .direction-count .ensures)
+returns-2 c =
+    let n = c .before in
+    let t = n .before .before .before in
+    let a = t .before .args in
+    directed-beyond (a .p) (a .b) (t .direction-at .result) (n .direction-count .result)
+    (t .direction-at .ensures) (n .before .enum-told .given .1) (n .direction-count .ensures)
 
 pub is-directed-spec : {M : Type 1} → statement M
 is-directed-spec =

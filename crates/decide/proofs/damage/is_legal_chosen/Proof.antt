@@ -10,7 +10,11 @@ is-legal-side-requires-2 : tie.Need-is-legal-side-requires-2
 is-legal-side-requires-2 c κs = tt
 
 returns : tie.Need-returns
-returns c = legal-chosen-as (c .before .before .before .args .p) (c .before .before .is-legal-side .result) (c .before .is-legal-side2 .result) (c .before .before .is-legal-side .ensures) (c .before .is-legal-side2 .ensures)
+returns c =
+    let h = c .before in
+    let w = h .before in
+    legal-chosen-as (w .before .args .p) (w .is-legal-side .result) (h .is-legal-side2 .result)
+    (w .is-legal-side .ensures) (h .is-legal-side2 .ensures)
 
 pub is-legal-chosen-spec : {M : Type 1} → statement M
 is-legal-chosen-spec =

@@ -18,13 +18,22 @@ enum-told-3 : tie.Need-enum-told-3
 enum-told-3 c = search needs
 
 returns : tie.Need-returns
-returns c = placed-as (c .before .before .before .args .side) (c .before .before .before .args .c) (c .before .before .is-inside .result) W.Yes (c .before .before .is-inside .ensures) (c .enum-told .given .1)
+returns c =
+    let b = c .before .before in
+    let a = b .before .args in
+    placed-as (a .side) (a .c) (b .is-inside .result) W.Yes (b .is-inside .ensures) (c .enum-told .given .1)
 
 returns-2 : tie.Need-returns-2
-returns-2 c = placed-as (c .before .before .before .args .side) (c .before .before .before .args .c) (c .before .before .is-inside .result) W.No (c .before .before .is-inside .ensures) (c .enum-told2 .given .1)
+returns-2 c =
+    let b = c .before .before in
+    let a = b .before .args in
+    placed-as (a .side) (a .c) (b .is-inside .result) W.No (b .is-inside .ensures) (c .enum-told2 .given .1)
 
 returns-3 : tie.Need-returns-3
-returns-3 c = placed-as (c .before .before .before .args .side) (c .before .before .before .args .c) (c .before .before .is-inside .result) _ (c .before .before .is-inside .ensures) (c .enum-told3 .given .1)
+returns-3 c =
+    let b = c .before .before in
+    let a = b .before .args in
+    placed-as (a .side) (a .c) (b .is-inside .result) _ (b .is-inside .ensures) (c .enum-told3 .given .1)
 
 pub is-placed-spec : {M : Type 1} → statement M
 is-placed-spec =

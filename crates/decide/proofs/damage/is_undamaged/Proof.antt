@@ -16,7 +16,14 @@ has-legal-parameters-requires : tie.Need-has-legal-parameters-requires
 has-legal-parameters-requires c κs = tt
 
 returns : tie.Need-returns
-returns c = undamaged-as (c .before .before .before .before .before .before .before .before .args .p) (c .before .before .before .before .before .before .before .before .args .b) (c .before .before .before .is-placed .result) (c .before .before .is-placed2 .result) (c .before .is-directed .result) (c .has-legal-parameters .result) (c .before .before .before .is-placed .ensures) (c .before .before .is-placed2 .ensures) (c .before .is-directed .ensures) (c .has-legal-parameters .ensures)
+returns c =
+    let d = c .before in
+    let y = d .before in
+    let x = y .before in
+    let a = x .before .before .before .before .before .args in
+    undamaged-as (a .p) (a .b)
+    (x .is-placed .result) (y .is-placed2 .result) (d .is-directed .result) (c .has-legal-parameters .result)
+    (x .is-placed .ensures) (y .is-placed2 .ensures) (d .is-directed .ensures) (c .has-legal-parameters .ensures)
 
 pub is-undamaged-spec : {M : Type 1} → statement M
 is-undamaged-spec =

@@ -20,10 +20,19 @@ enum-told : tie.Need-enum-told
 enum-told c = search needs
 
 returns : tie.Need-returns
-returns c = along-as (c .before .before .before .before .before .args .p) (c .before .before .before .before .before .args .c) (c .before .before .before .before .before .args .at) (c .before .before .before .before .direction-at .result) (A.Along (c .before .before .d .given .0 .0)) (c .is-subdivisible-along .result) (c .before .before .before .before .direction-at .ensures) (c .before .before .d .given .1) (c .is-subdivisible-along .ensures)
+returns c =
+    let k = c .before .before in
+    let t = k .before .before in
+    let a = t .before .args in
+    along-as (a .p) (a .c) (a .at) (t .direction-at .result) (A.Along (k .d .given .0 .0)) (c .is-subdivisible-along .result)
+    (t .direction-at .ensures) (k .d .given .1) (c .is-subdivisible-along .ensures)
 
 returns-2 : tie.Need-returns-2
-returns-2 c = along-as (c .before .before .before .args .p) (c .before .before .before .args .c) (c .before .before .before .args .at) (c .before .before .direction-at .result) A.Beyond false (c .before .before .direction-at .ensures) (c .enum-told .given .1) refl
+returns-2 c =
+    let t = c .before .before in
+    let a = t .before .args in
+    along-as (a .p) (a .c) (a .at) (t .direction-at .result) A.Beyond false
+    (t .direction-at .ensures) (c .enum-told .given .1) refl
 
 pub is-subdivisible-spec : {M : Type 1} → statement M
 is-subdivisible-spec =

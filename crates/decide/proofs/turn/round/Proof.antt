@@ -6,10 +6,13 @@ use Rattle.decide.proofs.turn.round.Statement.{statement}
 use Rattle.decide.proofs.turn.round.Tie as tie
 
 returns : tie.Need-returns
-returns c = round-small (c .before .args .at) (c .before .args .n) (c .if1 .taken)
+returns c = let a = c .before .args in round-small (a .at) (a .n) (c .if1 .taken)
 
 returns-2 : tie.Need-returns-2
-returns-2 c = round-once (c .before .before .args .at) (c .before .before .args .n) (c .before .if1 .left) (c .if2 .taken)
+returns-2 c =
+    let b = c .before in
+    let a = b .before .args in
+    round-once (a .at) (a .n) (b .if1 .left) (c .if2 .taken)
 
 rem-result : tie.Need-rem-result
 rem-result c = search needs

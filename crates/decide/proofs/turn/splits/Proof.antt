@@ -18,13 +18,22 @@ enum-told-3 : tie.Need-enum-told-3
 enum-told-3 c = search needs
 
 returns : tie.Need-returns
-returns c = splits-as (c .before .before .before .args .x) (c .before .before .before .args .integer) (c .before .before .is-subdivisible .result) W.Yes (c .before .before .is-subdivisible .ensures) (c .enum-told .given .1)
+returns c =
+    let b = c .before .before in
+    let a = b .before .args in
+    splits-as (a .x) (a .integer) (b .is-subdivisible .result) W.Yes (b .is-subdivisible .ensures) (c .enum-told .given .1)
 
 returns-2 : tie.Need-returns-2
-returns-2 c = splits-as (c .before .before .before .args .x) (c .before .before .before .args .integer) (c .before .before .is-subdivisible .result) W.No (c .before .before .is-subdivisible .ensures) (c .enum-told2 .given .1)
+returns-2 c =
+    let b = c .before .before in
+    let a = b .before .args in
+    splits-as (a .x) (a .integer) (b .is-subdivisible .result) W.No (b .is-subdivisible .ensures) (c .enum-told2 .given .1)
 
 returns-3 : tie.Need-returns-3
-returns-3 c = splits-as (c .before .before .before .args .x) (c .before .before .before .args .integer) (c .before .before .is-subdivisible .result) _ (c .before .before .is-subdivisible .ensures) (c .enum-told3 .given .1)
+returns-3 c =
+    let b = c .before .before in
+    let a = b .before .args in
+    splits-as (a .x) (a .integer) (b .is-subdivisible .result) _ (b .is-subdivisible .ensures) (c .enum-told3 .given .1)
 
 pub splits-spec : {M : Type 1} → statement M
 splits-spec =

@@ -14,10 +14,17 @@ enum-told : tie.Need-enum-told
 enum-told c = search needs
 
 returns : tie.Need-returns
-returns c = turns-to (c .before .before .before .before .args .p) (c .before .before .before .before .args .start) (c .before .at .given .0 .0) (c .before .before .before .before .args .c) (c .before .before .before .search .result) (c .before .before .before .search .ensures) (c .before .at .given .1)
+returns c =
+    let b = c .before in
+    let s = b .before .before in
+    let a = s .before .args in
+    turns-to (a .p) (a .start) (b .at .given .0 .0) (a .c) (s .search .result) (s .search .ensures) (b .at .given .1)
 
 returns-2 : tie.Need-returns-2
-returns-2 c = turns-nowhere (c .before .before .before .args .p) (c .before .before .before .args .start) (c .before .before .before .args .c) (c .before .before .search .result) (c .before .before .search .ensures) (c .enum-told .given .1)
+returns-2 c =
+    let s = c .before .before in
+    let a = s .before .args in
+    turns-nowhere (a .p) (a .start) (a .c) (s .search .result) (s .search .ensures) (c .enum-told .given .1)
 
 pub turn-from-spec : {M : Type 1} → statement M
 turn-from-spec =

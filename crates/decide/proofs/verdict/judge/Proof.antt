@@ -5,11 +5,11 @@ use Rattle.decide.proofs.verdict.judge.Tie as tie
 returns : tie.Need-returns
 returns c = rw (c .if1 .taken)
 
-told-requires : tie.Need-told-requires
-told-requires c κs = tt
+by-verdict-requires : tie.Need-by-verdict-requires
+by-verdict-requires c κs = tt
 
 returns-2 : tie.Need-returns-2
-returns-2 c = rw (c .before .if1 .left) (c .told .ensures)
+returns-2 c = rw (c .before .if1 .left) (c .by-verdict .ensures)
 
 pub judge-spec : {M : Type 1} → statement M
-judge-spec = tie.close (tie.spec returns told-requires returns-2)
+judge-spec = tie.close (tie.spec returns by-verdict-requires returns-2)

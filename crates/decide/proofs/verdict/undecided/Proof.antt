@@ -8,13 +8,18 @@ returns : tie.Need-returns
 returns c = undecided-unsampled (c .before .args .v) (c .if1 .taken)
 
 returns-2 : tie.Need-returns-2
-returns-2 c = undecided-unfound (c .before .before .args .v) (c .before .if1 .left) (c .if2 .taken)
+returns-2 c =
+    let i = c .before in
+    undecided-unfound (i .before .args .v) (i .if1 .left) (c .if2 .taken)
 
 first-point-requires : tie.Need-first-point-requires
 first-point-requires c κs = omega arith
 
 returns-3 : tie.Need-returns-3
-returns-3 c = undecided-found (c .before .before .before .args .v) (c .first-point .result) (c .before .before .if1 .left) (c .before .if2 .left) (c .first-point .ensures)
+returns-3 c =
+    let i = c .before in
+    let h = i .before in
+    undecided-found (h .before .args .v) (c .first-point .result) (h .if1 .left) (i .if2 .left) (c .first-point .ensures)
 
 pub undecided-spec : {M : Type 1} → statement M
 undecided-spec = tie.close (tie.spec returns returns-2 first-point-requires returns-3)

@@ -5,8 +5,9 @@ use Prim.Native.Nat.{_+_, _-_, _≤_}
 use native.Mathlib.Omega.{arith}
 use borrow.Author.Needs.{needs}
 use lib.ListN.{length, getD, drop, drop-of-length-le, length-map}
-use Rattle.image.specs.Cell.{Cell, meaningOf, meanings, tallied, tallySum}
-use Rattle.image.proofs.CountLaws.{drop-meanings, tally-small, tally-start, tally-none, tally-turn, part-small}
+use Rattle.image.specs.Cell.{Cell, meaningOf, meanings, tallied}
+use Rattle.image.specs.RowsComputed.{tallySum}
+use Rattle.image.proofs.CountLaws.{drop-meanings, tally-small, tally-start, tally-none, tally-pass, part-small}
 use Rattle.image.proofs.rows.count_row.Statement.{statement}
 use Rattle.image.proofs.rows.count_row.Tie as tie
 
@@ -53,7 +54,7 @@ loop-again c =
     let n = a .row .now in (
       l .inv .0,
       omega arith,
-      tally-turn (a .taken) (l .tally) (c .before .count-cell .result) (c .sum .result) (tallied (a .taken) (meanings n)) (meaningOf (getD n (l .i) 0) ∷ []) (meanings (drop (l .i + 1) n))
+      tally-pass (a .taken) (l .tally) (c .before .count-cell .result) (c .sum .result) (tallied (a .taken) (meanings n)) (meaningOf (getD n (l .i) 0) ∷ []) (meanings (drop (l .i + 1) n))
           (ap (λ (m : List Cell). tallySum (l .tally) (tallied (a .taken) m)) (sym (drop-meanings n (l .i) (omega arith))) ∙ l .inv .2)
           (c .before .count-cell .ensures)
           (c .sum .ensures),

@@ -5,9 +5,10 @@ use Prim.Native.Nat.{_+_, _-_, _*_, _≤_}
 use native.Mathlib.Omega.{arith}
 use borrow.Author.Needs.{needs}
 use lib.ListN.{length, take, drop, length-take, length-drop, length-map}
-use Rattle.image.specs.Cell.{Cell, meanings, meaningOf, tallied, tallySum}
+use Rattle.image.specs.Cell.{Cell, meanings, meaningOf, tallied}
+use Rattle.image.specs.RowsComputed.{tallySum}
 use Rattle.image.proofs.RangeLaws.{row-fits}
-use Rattle.image.proofs.CountLaws.{heldFrom, held-all, held-end, held-turn, held-length, tally-small, tally-start, tally-none, tally-turn, part-small}
+use Rattle.image.proofs.CountLaws.{heldFrom, held-all, held-end, held-pass, held-length, tally-small, tally-start, tally-none, tally-pass, part-small}
 use Rattle.image.proofs.rows.count_rows.Statement.{statement}
 use Rattle.image.proofs.rows.count_rows.Tie as tie
 
@@ -91,10 +92,10 @@ loop-again c =
     let start = l .row * a .width + r .left in
     let end = l .row * a .width + r .right in (
       omega (arith, i .loop-test .taken),
-      tally-turn (a .taken) (l .tally) (c .before .count-row .result) (c .sum .result) (tallied (a .taken) (heldFrom (a .width) (r .left) (r .right) (r .top) (r .bottom) n))
+      tally-pass (a .taken) (l .tally) (c .before .count-row .result) (c .sum .result) (tallied (a .taken) (heldFrom (a .width) (r .left) (r .right) (r .top) (r .bottom) n))
           (meanings (take (end - start) (drop start n))) (heldFrom (a .width) (r .left) (r .right) (l .row + 1) (r .bottom) n)
           (ap (λ (m : List Cell). tallySum (l .tally) (tallied (a .taken) m))
-          (sym (held-turn (a .width) (r .left) (r .right) (l .row) (r .bottom) start end n (s .pre .across) (s .pre .right) (i .loop-test .taken) refl refl (room i))) ∙ l .inv .1)
+          (sym (held-pass (a .width) (r .left) (r .right) (l .row) (r .bottom) start end n (s .pre .across) (s .pre .right) (i .loop-test .taken) refl refl (room i))) ∙ l .inv .1)
           (c .before .count-row .ensures)
           (c .sum .ensures),
     )

@@ -4,7 +4,7 @@ use mathlib.Core.List.{map}
 use Prim.Native.Nat.{ℕ, _-_, _≤_}
 use native.Mathlib.Omega.{arith}
 use lib.ListN.{length, length-set}
-use Rattle.image.proofs.PaintLaws.{rowFrom, row-start, row-end, row-turn}
+use Rattle.image.proofs.PaintLaws.{rowFrom, row-start, row-end, row-pass}
 use Rattle.image.proofs.rows.fill_row.Statement.{statement}
 use Rattle.image.proofs.rows.fill_row.Tie as tie
 
@@ -34,7 +34,7 @@ loop-again : tie.Need-loop-again Inv-loop μ-loop
 loop-again c =
     let l = c .before .loop in
     let a = c .before .before .args in
-    (l .inv .0, simp length-set (l .inv .1), omega arith, row-turn (λ n. a .code) (l .i) (a .code) (l .row) (omega arith) refl ∙ l .inv .3)
+    (l .inv .0, simp length-set (l .inv .1), omega arith, row-pass (λ n. a .code) (l .i) (a .code) (l .row) (omega arith) refl ∙ l .inv .3)
 
 same-length : tie.Need-same-length Inv-loop μ-loop
 same-length c = omega arith

@@ -6,7 +6,7 @@ use borrow.Author.Needs.{needs}
 use lib.ListN.{length, drop}
 use Rattle.image.specs.Cell.{meanings, ofKind}
 use Rattle.image.specs.Painting.{someOf}
-use Rattle.image.proofs.CountLaws.{find-hit, find-turn, find-end}
+use Rattle.image.proofs.CountLaws.{find-hit, find-pass, find-end}
 use Rattle.image.proofs.rows.find_in_row.Statement.{statement}
 use Rattle.image.proofs.rows.find_in_row.Tie as tie
 
@@ -49,7 +49,7 @@ loop-again c =
     let a = b .before .before .args in (
       l .inv .0,
       omega arith,
-      find-turn (ofKind (a .kind)) (a .row .now) (l .i) (omega arith) (sym (c .before .is-of .ensures) ∙ c .if1 .left) ∙ l .inv .2,
+      find-pass (ofKind (a .kind)) (a .row .now) (l .i) (omega arith) (sym (c .before .is-of .ensures) ∙ c .if1 .left) ∙ l .inv .2,
     )
 
 returns-2 : tie.Need-returns-2 Inv-loop μ-loop

@@ -6,8 +6,8 @@ use native.Mathlib.Omega.{arith}
 use borrow.Author.Needs.{needs}
 use lib.ListN.{length, length-set}
 use Rattle.image.specs.declared.Op.the-variants as O
-use Rattle.image.specs.Cell.{touched}
-use Rattle.image.proofs.PaintLaws.{rowFrom, row-start, row-end, row-turn}
+use Rattle.image.specs.RowsComputed.{touched}
+use Rattle.image.proofs.PaintLaws.{rowFrom, row-start, row-end, row-pass}
 use Rattle.image.proofs.rows.name_row.Statement.{statement}
 use Rattle.image.proofs.rows.name_row.Tie as tie
 
@@ -50,7 +50,7 @@ loop-again c =
       l .inv .0,
       simp length-set (l .inv .1),
       omega arith,
-      row-turn (touched (O.Name (a .from) (a .to))) (l .i) (c .name-cell .result) (l .row) (omega arith) (c .name-cell .ensures) ∙ l .inv .3,
+      row-pass (touched (O.Name (a .from) (a .to))) (l .i) (c .name-cell .result) (l .row) (omega arith) (c .name-cell .ensures) ∙ l .inv .3,
     )
 
 same-length : tie.Need-same-length Inv-loop μ-loop

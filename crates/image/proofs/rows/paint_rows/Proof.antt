@@ -6,7 +6,7 @@ use borrow.Author.Needs.{needs}
 use borrow.Rule.Slice.PartMut.{same-len-mid}
 use lib.ListN.{length}
 use Rattle.image.proofs.RangeLaws.{row-fits}
-use Rattle.image.proofs.PaintLaws.{paintFrom, paint-all, paint-end, paint-turn}
+use Rattle.image.proofs.PaintLaws.{paintFrom, paint-all, paint-end, paint-pass}
 use Rattle.image.proofs.rows.paint_rows.Statement.{statement}
 use Rattle.image.proofs.rows.paint_rows.Tie as tie
 
@@ -72,7 +72,7 @@ loop-again c =
       omega (arith, l .inv .0),
       omega (arith, i .loop-test .taken),
       same-len-mid (l .row * a .width + r .left) (l .row * a .width + r .right - (l .row * a .width + r .left)) (l .cells) (y .last .0) (y .kept .0) ∙ l .inv .2,
-      paint-turn (a .width) (r .left) (r .right) (l .row) (r .bottom) (l .row * a .width + r .left) (l .row * a .width + r .right) (a .op) (l .cells) (y .last .0)
+      paint-pass (a .width) (r .left) (r .right) (l .row) (r .bottom) (l .row * a .width + r .left) (l .row * a .width + r .right) (a .op) (l .cells) (y .last .0)
           (s .pre .across) (s .pre .right) (i .loop-test .taken) refl refl (room i) (y .ensures) ∙ l .inv .3,
     )
 

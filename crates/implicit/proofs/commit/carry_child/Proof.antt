@@ -2,7 +2,7 @@
 use mathlib.Core.Path.{sym, ap, _∙_}
 use denote.Ref.{now}
 use Rattle.implicit.specs.Step.{worldOf}
-use Rattle.implicit.specs.ByChild.{carriedBy}
+use Rattle.implicit.specs.StepComputed.{carriedBy}
 use borrow.Author.Needs.{needs}
 use Rattle.implicit.proofs.commit.carry_child.Statement.{statement}
 use Rattle.implicit.proofs.commit.carry_child.Tie as tie

@@ -6,7 +6,7 @@ use Prim.Native.Nat.{_+_, _-_, _≤_}
 use lib.ListN.{length, drop}
 use Rattle.implicit.specs.declared.state.State.{State}
 use Rattle.implicit.specs.Step.{worldOf}
-use Rattle.implicit.specs.ByChild.{withCarried, carriedAll}
+use Rattle.implicit.specs.StepComputed.{withCarried, carriedAll}
 use Rattle.implicit.proofs.StepLawsCode.{carried-state, carried-more, carried-on, carried-end}
 use borrow.Author.Needs.{needs}
 use Rattle.implicit.proofs.commit.carry_children.Statement.{statement}

@@ -1,7 +1,7 @@
 -- `commit::mark_child` meets its contract. Assumes nothing.
 use mathlib.Core.Path.{sym, ap, _∙_}
 use denote.Ref.{now}
-use Rattle.implicit.specs.ByChild.{markedBy}
+use Rattle.implicit.specs.StepComputed.{markedBy}
 use borrow.Author.Needs.{needs}
 use Rattle.implicit.proofs.commit.mark_child.Statement.{statement}
 use Rattle.implicit.proofs.commit.mark_child.Tie as tie

@@ -3,7 +3,7 @@ use mathlib.Core.Path.{_≡_, refl, sym, _∙_}
 use native.Mathlib.Omega.{arith}
 use Prim.Native.Nat.{_-_, _≤_}
 use lib.ListN.{length, drop}
-use Rattle.implicit.specs.ByChild.{markedAll}
+use Rattle.implicit.specs.StepComputed.{markedAll}
 use Rattle.implicit.proofs.StepLawsCode.{marked-on, marked-end}
 use borrow.Author.Needs.{needs}
 use Rattle.implicit.proofs.commit.mark_children.Statement.{statement}

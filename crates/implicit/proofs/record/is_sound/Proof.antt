@@ -23,15 +23,12 @@ is-sound-last-requires-2 c κs = tt
 
 returns : tie.Need-returns
 returns c =
-    let a = c .before .before .before .before .before .before .args in
-    let p = c .before .before .before .before .before .is-legal-chosen in
-    let n = c .before .before .before .before .has-sound-counts in
-    let r = c .before .before .before .has-sound-ring in
-    let u = c .before .before .has-sound-use in
-    let f = c .before .is-sound-last in
-    let b = c .is-sound-last2 in
-    sound-record-as (a .len) (a .s) (p .result) (n .result) (r .result) (u .result) (f .result) (b .result)
-    (p .ensures) (n .ensures) (r .ensures) (u .ensures) (f .ensures) (b .ensures)
+    let f = c .before in
+    let u = f .before in
+    let r = u .before in
+    let n = r .before in
+    sound-record-as _ _ _ _ _ _ _ _ (n .before .is-legal-chosen .ensures) (n .has-sound-counts .ensures) (r .has-sound-ring .ensures)
+    (u .has-sound-use .ensures) (f .is-sound-last .ensures) (c .is-sound-last2 .ensures)
 
 pub is-sound-spec : {M : Type 1} → statement M
 is-sound-spec =

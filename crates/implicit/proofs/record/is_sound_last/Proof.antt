@@ -17,11 +17,9 @@ is-legal-requires-4 c κs = tt
 
 returns : tie.Need-returns
 returns c =
-    let m = c .before .before .before .is-legal in
-    let n = c .before .before .is-legal2 in
-    let theta = c .before .is-legal3 in
-    let t = c .is-legal4 in
-    sound-last-as (c .before .before .before .before .before .before .args .l) (m .result) (n .result) (theta .result) (t .result) (m .ensures) (n .ensures) (theta .ensures) (t .ensures)
+    let theta = c .before in
+    let n = theta .before in
+    sound-last-as _ _ _ _ _ (n .before .is-legal .ensures) (n .is-legal2 .ensures) (theta .is-legal3 .ensures) (c .is-legal4 .ensures)
 
 pub is-sound-last-spec : {M : Type 1} → statement M
 is-sound-last-spec = tie.close (tie.spec is-legal-requires is-legal-requires-2 is-legal-requires-3 is-legal-requires-4 returns)

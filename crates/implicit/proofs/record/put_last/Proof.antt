@@ -17,7 +17,10 @@ put-requires-4 c κs = tt
 
 returns : tie.Need-returns
 unfolding putLast
-returns c = rw (c .before .before .before .put .ensures, c .before .before .put2 .ensures, c .before .put3 .ensures, c .put4 .ensures)
+returns c =
+    let theta = c .before in
+    let n = theta .before in
+    rw (n .before .put .ensures, n .put2 .ensures, theta .put3 .ensures, c .put4 .ensures)
 
 pub put-last-spec : {M : Type 1} → statement M
 put-last-spec = tie.close (tie.spec put-requires put-requires-2 put-requires-3 put-requires-4 returns)

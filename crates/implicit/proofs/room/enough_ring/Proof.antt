@@ -38,16 +38,12 @@ returns : tie.Need-returns
 returns c =
     let f = c .before .before in
     let l = f .before .before in
-    let a = l .before .args in
-    enough-bytes (a .chosen) (a .ranges) (a .steps) (f .first .given .0 .0) (c .step-growth .result)
-    (sym (l .least-ring .ensures .0) ∙ f .first .given .1) (c .step-growth .ensures .0)
+    enough-bytes _ _ _ _ _ (sym (l .least-ring .ensures .0) ∙ f .first .given .1) (c .step-growth .ensures .0)
 
 returns-2 : tie.Need-returns-2
 returns-2 c =
     let w = c .before in
-    let l = w .before .before in
-    let a = l .before .args in
-    enough-refused (a .chosen) (a .ranges) (a .steps) (w .why .given .0 .0) (sym (l .least-ring .ensures .0) ∙ w .why .given .1)
+    enough-refused _ _ _ _ (sym (w .before .before .least-ring .ensures .0) ∙ w .why .given .1)
 
 pub enough-ring-spec : {M : Type 1} → statement M
 enough-ring-spec =

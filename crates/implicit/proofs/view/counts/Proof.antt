@@ -16,10 +16,7 @@ enum-told c = search needs
 
 count-pixels-requires : tie.Need-count-pixels-requires
 count-pixels-requires c κs =
-    let e = c .before .before in
-    let n = e .before .pixel-count in
-    let a = e .before .before .before .args in
-    let v = drawn-viewable (a .s) (a .cells .now) (n .result) (sym (e .examine .ensures) ∙ c .enum-told .given .1) in
+    let v = drawn-viewable _ _ _ (sym (c .before .before .examine .ensures) ∙ c .enum-told .given .1) in
     (v .record-sound, v .enough)
 
 enum-known-why : tie.Need-enum-known-why
@@ -27,17 +24,15 @@ enum-known-why c = search needs
 
 returns : tie.Need-returns
 returns c =
-    let e = c .before .before .before in
-    let n = e .before .pixel-count in
-    let a = e .before .before .before .args in
-    c .count-pixels .ensures ∙ sym (counts-done (a .s) (a .cells .now) (n .result) (n .ensures) (sym (e .examine .ensures) ∙ c .before .enum-told .given .1))
+    let k = c .before in
+    let e = k .before .before in
+    c .count-pixels .ensures ∙ sym (counts-done _ _ _ (e .before .pixel-count .ensures) (sym (e .examine .ensures) ∙ k .enum-told .given .1))
 
 returns-2 : tie.Need-returns-2
 returns-2 c =
-    let e = c .before .before .before in
-    let n = e .before .pixel-count in
-    let a = e .before .before .before .args in
-    sym (counts-refused (a .s) (a .cells .now) (n .result) (c .before .why .given .0 .0) (n .ensures) (sym (e .examine .ensures) ∙ c .before .why .given .1))
+    let k = c .before in
+    let e = k .before .before in
+    sym (counts-refused _ _ _ _ (e .before .pixel-count .ensures) (sym (e .examine .ensures) ∙ k .why .given .1))
 
 pub counts-spec : {M : Type 1} → statement M
 counts-spec =

@@ -35,11 +35,23 @@ same-length c = search needs
 
 returns : tie.Need-returns
 returns c =
-    let d = c .before .before .draw in
-    let n = c .before .before .before .before .before .pixel-count in
-    let b = c .before .before .before .before .before .before .before .before in
-    left-drawn (b .args .s) (n .result - 0) (b .args .cells .now) (b .args .out .now) (d .last .1 .1 .0)
-    (omega (arith, n .ensures)) (omega (arith, n .ensures, b .pre .0)) (omega (arith, n .ensures, b .pre .1)) (d .ensures .1)
+    let d = c .before .before in
+    let n = d .before .before .before in
+    let a = n .before .before .before .args in
+    left-drawn (a .s) (n .pixel-count .result - 0) (a .cells .now) (a .out .now) (d .draw .last .1 .1 .0) (d .draw .ensures .1)
+    (omega arith) (omega arith) (omega arith)
 
 pub draw-spec : {M : Type 1} → statement M
-draw-spec = tie.close (tie.spec pixel-count-requires sub-draw part-draw-start part-draw-end sub-draw-2 part-draw-start-2 part-draw-end-2 draw-requires same-length returns)
+draw-spec =
+    tie.close
+    (tie.spec
+    pixel-count-requires
+    sub-draw
+    part-draw-start
+    part-draw-end
+    sub-draw-2
+    part-draw-start-2
+    part-draw-end-2
+    draw-requires
+    same-length
+    returns)

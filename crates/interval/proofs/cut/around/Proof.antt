@@ -2,7 +2,7 @@
 use mathlib.Core.Path.{_∙_, sym, ap}
 use mathlib.Core.Bool.{true, false}
 use Rattle.interval.specs.declared.Interval.{Interval}
-use Rattle.interval.specs.declared.Pieces.the-variants as C
+use Rattle.interval.specs.declared.PiecesAnswer.the-variants as C
 use Rattle.interval.specs.Cuts.{narrowed}
 use Rattle.interval.proofs.LaterCut.{around-by}
 use Rattle.interval.proofs.cut.around.Statement.{statement}

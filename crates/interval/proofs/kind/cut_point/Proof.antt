@@ -7,7 +7,8 @@ use lib.Ieee.{Float, ofBits, neg}
 use Rattle.interval.specs.declared.kind.Kind.{Kind}
 use Rattle.interval.specs.Bounds.{plusZero}
 use Rattle.interval.specs.Middle.{wholeIf}
-use Rattle.interval.specs.Kinds.{finiteEnds, cutUpTo, cutPointAt}
+use Rattle.interval.specs.Kinds.{cutUpTo, cutPointAt}
+use Rattle.interval.specs.KindsComputed.{finiteEnds}
 use Rattle.interval.proofs.CutUpTo.{units-neg, neg-finite}
 use Rattle.interval.proofs.kind.cut_point.Statement.{statement}
 use Rattle.interval.proofs.kind.cut_point.Tie as tie

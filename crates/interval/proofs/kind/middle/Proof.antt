@@ -4,7 +4,8 @@ use borrow.Author.Needs.{needs}
 use lib.Dec.{T}
 use lib.Ieee.{ofBits, neg}
 use Rattle.interval.specs.declared.kind.Kind.{Kind}
-use Rattle.interval.specs.Kinds.{finiteEnds, middleAt}
+use Rattle.interval.specs.Kinds.{middleAt}
+use Rattle.interval.specs.KindsComputed.{finiteEnds}
 use Rattle.interval.proofs.kind.middle.Statement.{statement}
 use Rattle.interval.proofs.kind.middle.Tie as tie
 

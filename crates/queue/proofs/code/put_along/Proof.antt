@@ -20,7 +20,10 @@ same-length c = search needs
 
 returns : tie.Need-returns
 returns c =
-    rw (← c .before .before .before .before .before .is-used .ensures, ← c .before .before .before .before .recall .ensures, ← c .before .before .before .parameter-of .ensures) (c .before .before .put-parameter .ensures)
+    let pp = c .before .before in
+    let r = pp .before .before in
+    rw (← r .before .is-used .ensures, ← r .recall .ensures, ← pp .before .parameter-of .ensures)
+    (pp .put-parameter .ensures)
 
 pub put-along-spec : {M : Type 1} → statement M
 put-along-spec =

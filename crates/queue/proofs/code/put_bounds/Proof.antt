@@ -27,10 +27,13 @@ same-length c = search needs
 
 returns : tie.Need-returns
 returns c =
-    let a = c .before .before .before .before .before .before .before .before .before .before .before .args in
-    let w = c .before .before .before .before .before .before .before .put-word in
-    let w₂ = c .before .before .put-word2 in
-    bounds-put (a .out .now) (w .last .0) (w₂ .last .0) (a .at) (a .p) _ _ (c .before .before .before .before .before .before .before .before .bits-of .ensures) (c .before .before .before .bits-of2 .ensures) (w .ensures) (w₂ .ensures)
+    let pw2 = c .before .before in
+    let pw = pw2 .before .before .before .before .before in
+    let a = pw .before .before .before .before .args in
+    let w = pw .put-word in
+    let w₂ = pw2 .put-word2 in
+    bounds-put (a .out .now) (w .last .0) (w₂ .last .0) (a .at) (a .p) _ _ (pw .before .bits-of .ensures)
+    (pw2 .before .bits-of2 .ensures) (w .ensures) (w₂ .ensures)
 
 pub put-bounds-spec : {M : Type 1} → statement M
 put-bounds-spec =

@@ -13,7 +13,8 @@ use Rattle.queue.proofs.code.put_little.Tie as tie
 
 abbrev Inv-loop : tie.InvT-loop
 Inv-loop out₀ at v count left₀ i₀ out left i =
-    (i ≤ count) × (length out ≡ length out₀) × (sets out (at + i) (littleEndian (count - i) left) ≡ sets out₀ at (littleEndian count v))
+    (i ≤ count) × (length out ≡ length out₀)
+    × (sets out (at + i) (littleEndian (count - i) left) ≡ sets out₀ at (littleEndian count v))
 
 abbrev μ-loop : tie.MeasureT-loop
 μ-loop out₀ at v count left₀ i₀ out left i = count - i
@@ -43,7 +44,8 @@ loop-again c =
     let e : a .count - l .i ≡ suc (a .count - (l .i + 1)) = omega arith in (
       omega arith,
       simp length-set (l .inv .1),
-      rw (← add-assoc (a .at) (l .i) 1) (little-step (l .out) (a .at + l .i) (a .count - (l .i + 1)) (l .left) ∙ rw e at (l .inv .2)),
+      rw (← add-assoc (a .at) (l .i) 1)
+          (little-step (l .out) (a .at + l .i) (a .count - (l .i + 1)) (l .left) ∙ rw e at (l .inv .2)),
     )
 
 same-length : tie.Need-same-length Inv-loop μ-loop
@@ -51,7 +53,8 @@ same-length c = c .before .loop .inv .1
 
 returns : tie.Need-returns Inv-loop μ-loop
 unfolding littleEndian
-returns c = let e : c .before .before .args .count - c .before .loop .i ≡ 0 = omega arith in rw e at (c .before .loop .inv .2)
+returns c =
+    let e : c .before .before .args .count - c .before .loop .i ≡ 0 = omega arith in rw e at (c .before .loop .inv .2)
 
 pub put-little-spec : {M : Type 1} → statement M
 put-little-spec =

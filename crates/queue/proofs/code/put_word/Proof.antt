@@ -11,7 +11,8 @@ use Rattle.queue.proofs.code.put_word.Statement.{statement}
 use Rattle.queue.proofs.code.put_word.Tie as tie
 
 abbrev Inv-loop : tie.InvT-loop
-Inv-loop out₀ at v left₀ i₀ out left i = (i ≤ 8) × (length out ≡ length out₀) × (sets out at (bigEndian i left) ≡ sets out₀ at (bigEndian 8 v))
+Inv-loop out₀ at v left₀ i₀ out left i =
+    (i ≤ 8) × (length out ≡ length out₀) × (sets out at (bigEndian i left) ≡ sets out₀ at (bigEndian 8 v))
 
 abbrev μ-loop : tie.MeasureT-loop
 μ-loop out₀ at v left₀ i₀ out left i = i

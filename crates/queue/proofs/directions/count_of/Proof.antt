@@ -1,7 +1,7 @@
 -- `count_of` meets its contract. Assumes nothing.
 use mathlib.Core.Path.{sym, ap, _∙_}
 use lib.Dec.{lit≤}
-use Rattle.queue.specs.Directions.{ones}
+use Rattle.queue.specs.DirectionsComputed.{ones}
 use borrow.Author.Needs.{needs}
 use Rattle.queue.proofs.directions.count_of.Statement.{statement}
 use Rattle.queue.proofs.directions.count_of.Tie as tie

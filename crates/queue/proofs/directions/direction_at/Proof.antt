@@ -13,7 +13,8 @@ count-of-requires c κs = search needs
 returns : tie.Need-returns
 unfolding directions
 returns c =
-    sym (at-first (c .before .before .args .set) D.XY parameters (c .before .before .args .at) _ (c .before .count-of .ensures .0) (c .if1 .taken))
+    let s = c .before .before in
+    sym (at-first (s .args .set) D.XY parameters (s .args .at) _ (c .before .count-of .ensures .0) (c .if1 .taken))
 
 parameter-at-requires : tie.Need-parameter-at-requires
 parameter-at-requires c κs = search needs
@@ -21,8 +22,10 @@ parameter-at-requires c κs = search needs
 returns-2 : tie.Need-returns-2
 unfolding directions
 returns-2 c =
+    let co = c .before .before in
+    let s = co .before in
     c .parameter-at .ensures
-    ∙ sym (at-later (c .before .before .before .args .set) D.XY parameters (c .before .before .before .args .at) _ (c .before .before .count-of .ensures .0) (c .before .if1 .left))
+    ∙ sym (at-later (s .args .set) D.XY parameters (s .args .at) _ (co .count-of .ensures .0) (c .before .if1 .left))
 
 pub direction-at-spec : {M : Type 1} → statement M
 direction-at-spec = tie.close (tie.spec count-of-requires returns parameter-at-requires returns-2)

@@ -34,13 +34,15 @@ add-result-4 c = omega arith
 
 returns : tie.Need-returns
 returns c =
-    directions-length (c .before .before .before .before .before .args .set) _ _ _ _
-    (c .before .before .before .count-of2 .ensures .0)
-    (c .before .before .count-of3 .ensures .0)
+    let co3 = c .before .before in
+    let co = co3 .before .before in
+    directions-length (co .before .args .set) _ _ _ _
+    (co3 .before .count-of2 .ensures .0)
+    (co3 .count-of3 .ensures .0)
     (c .before .count-of4 .ensures .0)
     (c .count-of5 .ensures .0)
     _
-    (c .before .before .before .before .count-of .ensures .0)
+    (co .count-of .ensures .0)
 
 pub direction-count-spec : {M : Type 1} → statement M
 direction-count-spec =

@@ -10,7 +10,8 @@ count-of-requires c κs = search needs
 
 returns : tie.Need-returns
 returns c =
-    m-at (c .before .before .args .set) (c .before .before .args .at) _ (c .before .count-of .ensures .0) (c .if1 .taken)
+    let s = c .before .before in
+    m-at (s .args .set) (s .args .at) _ (c .before .count-of .ensures .0) (c .if1 .taken)
 
 count-of-requires-2 : tie.Need-count-of-requires-2
 count-of-requires-2 c κs = search needs
@@ -20,7 +21,10 @@ add-n c = omega arith
 
 returns-2 : tie.Need-returns-2
 returns-2 c =
-    n-at (c .before .before .before .before .args .set) (c .before .before .before .before .args .at) _ (c .before .before .before .count-of .ensures .0) _ (c .before .count-of2 .ensures .0) (c .before .before .if1 .left) (c .if2 .taken)
+    let i1 = c .before .before in
+    let s = i1 .before .before in
+    n-at (s .args .set) (s .args .at) _ (i1 .before .count-of .ensures .0) _ (c .before .count-of2 .ensures .0)
+    (i1 .if1 .left) (c .if2 .taken)
 
 count-of-requires-3 : tie.Need-count-of-requires-3
 count-of-requires-3 c κs = search needs
@@ -30,7 +34,11 @@ add-theta c = omega arith
 
 returns-3 : tie.Need-returns-3
 returns-3 c =
-    theta-at (c .before .before .before .before .before .before .args .set) (c .before .before .before .before .before .before .args .at) _ (c .before .before .before .before .before .count-of .ensures .0) _ (c .before .before .before .count-of2 .ensures .0) _ (c .before .count-of3 .ensures .0) (c .before .before .if2 .left) (c .if3 .taken)
+    let i2 = c .before .before in
+    let co = i2 .before .before .before in
+    let s = co .before in
+    theta-at (s .args .set) (s .args .at) _ (co .count-of .ensures .0) _ (i2 .before .count-of2 .ensures .0) _
+    (c .before .count-of3 .ensures .0) (i2 .if2 .left) (c .if3 .taken)
 
 count-of-requires-4 : tie.Need-count-of-requires-4
 count-of-requires-4 c κs = search needs
@@ -40,11 +48,21 @@ add-t c = omega arith
 
 returns-4 : tie.Need-returns-4
 returns-4 c =
-    t-at (c .before .before .before .before .before .before .before .before .args .set) (c .before .before .before .before .before .before .before .before .args .at) _ (c .before .before .before .before .before .before .before .count-of .ensures .0) _ (c .before .before .before .before .before .count-of2 .ensures .0) _ (c .before .before .before .count-of3 .ensures .0) _ (c .before .count-of4 .ensures .0) (c .before .before .if3 .left) (c .if4 .taken)
+    let i3 = c .before .before in
+    let co2 = i3 .before .before .before in
+    let co = co2 .before .before in
+    let s = co .before in
+    t-at (s .args .set) (s .args .at) _ (co .count-of .ensures .0) _ (co2 .count-of2 .ensures .0) _
+    (i3 .before .count-of3 .ensures .0) _ (c .before .count-of4 .ensures .0) (i3 .if3 .left) (c .if4 .taken)
 
 returns-5 : tie.Need-returns-5
 returns-5 c =
-    beyond-all (c .before .before .before .before .before .before .before .before .args .set) (c .before .before .before .before .before .before .before .before .args .at) _ (c .before .before .before .before .before .before .before .count-of .ensures .0) _ (c .before .before .before .before .before .count-of2 .ensures .0) _ (c .before .before .before .count-of3 .ensures .0) _ (c .before .count-of4 .ensures .0) (c .if4 .left)
+    let co3 = c .before .before .before in
+    let co2 = co3 .before .before in
+    let co = co2 .before .before in
+    let s = co .before in
+    beyond-all (s .args .set) (s .args .at) _ (co .count-of .ensures .0) _ (co2 .count-of2 .ensures .0) _
+    (co3 .count-of3 .ensures .0) _ (c .before .count-of4 .ensures .0) (c .if4 .left)
 
 pub parameter-at-spec : {M : Type 1} → statement M
 parameter-at-spec =

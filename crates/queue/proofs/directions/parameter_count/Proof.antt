@@ -31,7 +31,8 @@ returns c =
     let n = c .before .before in
     let m = n .before in (
       parameters-length (m .before .args .set) _ _ _ _
-          (m .count-of .ensures .0) (n .count-of2 .ensures .0) (c .before .count-of3 .ensures .0) (c .count-of4 .ensures .0),
+          (m .count-of .ensures .0) (n .count-of2 .ensures .0) (c .before .count-of3 .ensures .0)
+          (c .count-of4 .ensures .0),
       omega arith,
     )
 

@@ -1,5 +1,5 @@
 -- `remember_place` meets its contract. Assumes nothing.
-use Rattle.queue.specs.Block.{settled, remembered}
+use Rattle.queue.specs.Block.{asQueued, remembered}
 use borrow.Author.Needs.{needs}
 use Rattle.queue.proofs.kept.remember_place.Statement.{statement}
 use Rattle.queue.proofs.kept.remember_place.Tie as tie
@@ -8,7 +8,7 @@ whole-line-requires : tie.Need-whole-line-requires
 whole-line-requires c κs = search needs
 
 returns : tie.Need-returns
-unfolding remembered settled
+unfolding remembered asQueued
 returns c = rw (c .whole-line .ensures)
 
 pub remember-place-spec : {M : Type 1} → statement M

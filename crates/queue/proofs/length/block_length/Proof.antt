@@ -19,22 +19,43 @@ parameters-length-requires c κs = search needs
 
 add-result : tie.Need-add-result
 add-result c =
-    let a = c .before .before .args in
-    let q = queueable (a .set) (a .b) (c .before .before .pre .0) in
-    let k = known-indices (a .last) (c .before .before .pre .1) in
-    omega (arith, c .before .place-length .ensures, c .parameters-length .ensures, place-few (a .last) (a .b) (k .0) (k .1) (q .x .bound) (q .y .bound), parameters-few (a .set) (a .last) (a .b) parameters)
+    let s = c .before .before in
+    let a = s .args in
+    let q = queueable (a .set) (a .b) (s .pre .0) in
+    let k = known-indices (a .last) (s .pre .1) in
+    omega (
+      arith,
+      c .before .place-length .ensures,
+      c .parameters-length .ensures,
+      place-few (a .last) (a .b) (k .0) (k .1) (q .x .bound) (q .y .bound),
+      parameters-few (a .set) (a .last) (a .b) parameters,
+    )
 
 add-result-2 : tie.Need-add-result-2
 add-result-2 c =
-    let a = c .before .before .args in
-    let q = queueable (a .set) (a .b) (c .before .before .pre .0) in
-    let k = known-indices (a .last) (c .before .before .pre .1) in
-    omega (arith, c .before .place-length .ensures, c .parameters-length .ensures, place-few (a .last) (a .b) (k .0) (k .1) (q .x .bound) (q .y .bound), parameters-few (a .set) (a .last) (a .b) parameters)
+    let s = c .before .before in
+    let a = s .args in
+    let q = queueable (a .set) (a .b) (s .pre .0) in
+    let k = known-indices (a .last) (s .pre .1) in
+    omega (
+      arith,
+      c .before .place-length .ensures,
+      c .parameters-length .ensures,
+      place-few (a .last) (a .b) (k .0) (k .1) (q .x .bound) (q .y .bound),
+      parameters-few (a .set) (a .last) (a .b) parameters,
+    )
 
 returns : tie.Need-returns
 returns c =
     let a = c .before .before .args in
-    omega (arith, c .before .place-length .ensures, c .parameters-length .ensures, encode-length (a .set) (a .last) (a .b))
+    omega (
+      arith,
+      c .before .place-length .ensures,
+      c .parameters-length .ensures,
+      encode-length (a .set) (a .last) (a .b),
+    )
 
 pub block-length-spec : {M : Type 1} → statement M
-block-length-spec = tie.close (tie.spec place-length-requires parameters-length-requires add-result add-result-2 returns)
+block-length-spec =
+    tie.close
+    (tie.spec place-length-requires parameters-length-requires add-result add-result-2 returns)

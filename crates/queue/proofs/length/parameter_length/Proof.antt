@@ -14,7 +14,8 @@ is-used-requires c κs = search needs
 returns : tie.Need-returns
 returns c =
     let a = c .before .before .args in
-    unused-length (inUse (a .set) (a .d)) (recalled (a .last) (a .d)) (parameterOf (a .b) (a .d)) (sym (c .before .is-used .ensures) ∙ denied _ (c .if1 .taken))
+    unused-length (inUse (a .set) (a .d)) (recalled (a .last) (a .d)) (parameterOf (a .b) (a .d))
+    (sym (c .before .is-used .ensures) ∙ denied _ (c .if1 .taken))
 
 parameter-of-requires : tie.Need-parameter-of-requires
 parameter-of-requires c κs = search needs
@@ -27,19 +28,25 @@ is-same-requires c κs = search needs
 
 returns-2 : tie.Need-returns-2
 returns-2 c =
-    let a = c .before .before .before .before .before .before .args in
-    let l = c .before .before .recall in
-    let q = c .before .before .before .parameter-of in
+    let r = c .before .before in
+    let i1 = r .before .before in
+    let a = i1 .before .before .args in
+    let l = r .recall in
+    let q = r .before .parameter-of in
     same-length (inUse (a .set) (a .d)) (recalled (a .last) (a .d)) (parameterOf (a .b) (a .d)) (l .result) (q .result)
-    (sym (c .before .before .before .before .before .is-used .ensures) ∙ granted _ (c .before .before .before .before .if1 .left)) (l .ensures) (q .ensures) (sym (c .before .is-same .ensures) ∙ c .if2 .taken)
+    (sym (i1 .before .is-used .ensures) ∙ granted _ (i1 .if1 .left)) (l .ensures) (q .ensures)
+    (sym (c .before .is-same .ensures) ∙ c .if2 .taken)
 
 returns-3 : tie.Need-returns-3
 returns-3 c =
-    let a = c .before .before .before .before .before .before .args in
-    let l = c .before .before .recall in
-    let q = c .before .before .before .parameter-of in
+    let r = c .before .before in
+    let i1 = r .before .before in
+    let a = i1 .before .before .args in
+    let l = r .recall in
+    let q = r .before .parameter-of in
     other-length (inUse (a .set) (a .d)) (recalled (a .last) (a .d)) (parameterOf (a .b) (a .d)) (l .result) (q .result)
-    (sym (c .before .before .before .before .before .is-used .ensures) ∙ granted _ (c .before .before .before .before .if1 .left)) (l .ensures) (q .ensures) (sym (c .before .is-same .ensures) ∙ c .if2 .left)
+    (sym (i1 .before .is-used .ensures) ∙ granted _ (i1 .if1 .left)) (l .ensures) (q .ensures)
+    (sym (c .before .is-same .ensures) ∙ c .if2 .left)
 
 pub parameter-length-spec : {M : Type 1} → statement M
 parameter-length-spec =

@@ -22,22 +22,24 @@ parameter-length-requires-4 c κs = search needs
 
 add-result : tie.Need-add-result
 add-result c =
-    let a = c .before .before .before .before .args in
+    let pl2 = c .before .before in
+    let a = pl2 .before .before .args in
     omega (
       arith,
-      c .before .before .before .parameter-length .ensures,
-      c .before .before .parameter-length2 .ensures,
+      pl2 .before .parameter-length .ensures,
+      pl2 .parameter-length2 .ensures,
       parameter-few (inUse (a .set) D.M) (a .last .m) (a .b .m),
       parameter-few (inUse (a .set) D.N) (a .last .n) (a .b .n),
     )
 
 add-result-2 : tie.Need-add-result-2
 add-result-2 c =
-    let a = c .before .before .before .before .args in
+    let pl2 = c .before .before in
+    let a = pl2 .before .before .args in
     omega (
       arith,
-      c .before .before .before .parameter-length .ensures,
-      c .before .before .parameter-length2 .ensures,
+      pl2 .before .parameter-length .ensures,
+      pl2 .parameter-length2 .ensures,
       c .before .parameter-length3 .ensures,
       parameter-few (inUse (a .set) D.M) (a .last .m) (a .b .m),
       parameter-few (inUse (a .set) D.N) (a .last .n) (a .b .n),
@@ -46,11 +48,12 @@ add-result-2 c =
 
 add-result-3 : tie.Need-add-result-3
 add-result-3 c =
-    let a = c .before .before .before .before .args in
+    let pl2 = c .before .before in
+    let a = pl2 .before .before .args in
     omega (
       arith,
-      c .before .before .before .parameter-length .ensures,
-      c .before .before .parameter-length2 .ensures,
+      pl2 .before .parameter-length .ensures,
+      pl2 .parameter-length2 .ensures,
       c .before .parameter-length3 .ensures,
       c .parameter-length4 .ensures,
       parameter-few (inUse (a .set) D.M) (a .last .m) (a .b .m),
@@ -61,11 +64,12 @@ add-result-3 c =
 
 returns : tie.Need-returns
 returns c =
-    let a = c .before .before .before .before .args in
+    let pl2 = c .before .before in
+    let a = pl2 .before .before .args in
     omega (
       arith,
-      c .before .before .before .parameter-length .ensures,
-      c .before .before .parameter-length2 .ensures,
+      pl2 .before .parameter-length .ensures,
+      pl2 .parameter-length2 .ensures,
       c .before .parameter-length3 .ensures,
       c .parameter-length4 .ensures,
       parameters-length (a .set) (a .last) (a .b),

@@ -13,7 +13,8 @@ use Rattle.queue.proofs.read.gather.Tie as tie
 abbrev Inv-loop : tie.InvT-loop
 Inv-loop out₀ older newer at count i₀ out i =
     (i ≤ count) × (length out ≡ length out₀)
-    × (sets out i (take (count - i) (drop (at + i) (older ++ newer))) ≡ sets out₀ 0 (take count (drop at (older ++ newer))))
+    × (sets out i (take (count - i) (drop (at + i) (older ++ newer)))
+    ≡ sets out₀ 0 (take count (drop at (older ++ newer))))
 
 abbrev μ-loop : tie.MeasureT-loop
 μ-loop out₀ older newer at count i₀ out i = count - i
@@ -43,14 +44,17 @@ loop-again c =
       omega arith,
       simp length-set (l .inv .1),
       rw (c .byte-at .ensures)
-          (gather-step (a .older .now ++ a .newer .now) (l .out) (a .at) (l .i) (a .count) (omega arith) (simp length-append (omega arith)) ∙ l .inv .2),
+          (gather-step (a .older .now ++ a .newer .now) (l .out) (a .at) (l .i) (a .count) (omega arith)
+          (simp length-append (omega arith)) ∙ l .inv .2),
     )
 
 same-length : tie.Need-same-length Inv-loop μ-loop
 same-length c = c .before .loop .inv .1
 
 returns : tie.Need-returns Inv-loop μ-loop
-returns c = let e : c .before .before .before .before .before .args .count - c .before .loop .i ≡ 0 = omega arith in rw e at (c .before .loop .inv .2)
+returns c =
+    let e : c .before .before .before .before .before .args .count - c .before .loop .i ≡ 0 = omega arith in
+    rw e at (c .before .loop .inv .2)
 
 pub gather-spec : {M : Type 1} → statement M
 gather-spec =

@@ -38,10 +38,14 @@ read-small-requires c κs = search needs
 
 returns : tie.Need-returns
 returns c =
-    let a = c .before .before .before .before .before .before .before .before .before .args in
+    let g = c .before .before .before .before in
+    let ame = g .before .before in
+    let a = ame .before .before .before .args in
     c .read-small .ensures
-    ∙ rw (c .before .before .before .before .gather .ensures)
-    (across (a .older .now ++ a .newer .now) (replicate 8 0) (a .at) _ (c .before .before .before .before .before .before .at-most-eight .result) (simp length-append (omega arith)) (simp length-append (omega arith)) (c .before .before .before .before .before .before .at-most-eight .ensures) (omega arith))
+    ∙ rw (g .gather .ensures)
+    (across (a .older .now ++ a .newer .now) (replicate 8 0) (a .at) _ (ame .at-most-eight .result)
+    (simp length-append (omega arith)) (simp length-append (omega arith)) (ame .at-most-eight .ensures)
+    (omega arith))
 
 pub read-across-spec : {M : Type 1} → statement M
 read-across-spec =

@@ -8,6 +8,10 @@ use borrow.Author.Needs.{needs}
 use Rattle.queue.proofs.read.read_bounds.Statement.{statement}
 use Rattle.queue.proofs.read.read_bounds.Tie as tie
 
+-- The way back to earlier points of the walk.
+abbrev to-start : tie.After-shared-slice-known2 → tie.Start
+to-start c = c .before .before
+
 add-if1 : tie.Need-add-if1
 add-if1 c = search needs
 
@@ -16,7 +20,7 @@ sub-if1 c = search needs
 
 returns : tie.Need-returns
 returns c =
-    let a = c .before .before .before .args in
+    let a = to-start (c .before) .args in
     let s = a .older .now ++ a .newer .now in
     bounds-short s (a .at) (a .integer) (simp length-append (c .if1 .taken))
 
@@ -40,17 +44,23 @@ enum-told c = search needs
 
 returns-2 : tie.Need-returns-2
 returns-2 c =
-    let a = c .before .before .before .before .before .before .before .before .before .args in
+    let ifb = c .before .before .before in
+    let w = ifb .before .before in
+    let a = to-start (w .before .before) .args in
     let s = a .older .now ++ a .newer .now in
     ap boundsOf (sym (c .before .interval .given .1))
-    ∙ bounds-some s (a .at) (a .integer) _ _ _ (simp length-append (c .before .before .before .before .before .before .if1 .left)) (c .before .before .before .before .before .read-word .ensures) (c .before .before .before .before .read-word2 .ensures) (c .before .before .before .interval-from-bits .ensures)
+    ∙ bounds-some s (a .at) (a .integer) _ _ _ (simp length-append (w .before .if1 .left)) (w .read-word .ensures)
+    (ifb .before .read-word2 .ensures) (ifb .interval-from-bits .ensures)
 
 returns-3 : tie.Need-returns-3
 returns-3 c =
-    let a = c .before .before .before .before .before .before .before .before .args in
+    let ifb = c .before .before in
+    let w = ifb .before .before in
+    let a = to-start (w .before .before) .args in
     let s = a .older .now ++ a .newer .now in
     ap boundsOf (sym (c .enum-told .given .1))
-    ∙ bounds-some s (a .at) (a .integer) _ _ _ (simp length-append (c .before .before .before .before .before .if1 .left)) (c .before .before .before .before .read-word .ensures) (c .before .before .before .read-word2 .ensures) (c .before .before .interval-from-bits .ensures)
+    ∙ bounds-some s (a .at) (a .integer) _ _ _ (simp length-append (w .before .if1 .left)) (w .read-word .ensures)
+    (ifb .before .read-word2 .ensures) (ifb .interval-from-bits .ensures)
 
 pub read-bounds-spec : {M : Type 1} → statement M
 read-bounds-spec =

@@ -25,15 +25,19 @@ read-across-requires c κs = search needs
 
 returns : tie.Need-returns
 returns c =
-    let a = c .before .before .before .before .before .before .before .args in
+    let rs = c .before .before .before in
+    let a = rs .before .before .before .before .args in
     let g = c .before .near .given in
-    number-near (a .older .now) (a .newer .now) (a .at) (g .0 .0) (g .0 .1 .0) (sym (g .1) ∙ c .before .before .before .read-small .ensures ∙ ap readSmall (c .before .before .before .before .part .ensures .0))
+    number-near (a .older .now) (a .newer .now) (a .at) (g .0 .0) (g .0 .1 .0)
+    (sym (g .1) ∙ rs .read-small .ensures ∙ ap readSmall (rs .before .part .ensures .0))
 
 returns-2 : tie.Need-returns-2
 returns-2 c =
-    let a = c .before .before .before .before .before .before .before .args in
+    let ssk2 = c .before .before .before .before .before in
+    let a = ssk2 .before .before .args in
     number-far (a .older .now ++ a .newer .now) (a .at) (c .read-across .result)
-    (both-bytes (a .older .now) (a .newer .now) (λ i. omega (arith, c .before .before .before .before .before .before .shared-slice-known .given i)) (λ i. omega (arith, c .before .before .before .before .before .shared-slice-known2 .given i)))
+    (both-bytes (a .older .now) (a .newer .now) (λ i. omega (arith, ssk2 .before .shared-slice-known .given i))
+    (λ i. omega (arith, ssk2 .shared-slice-known2 .given i)))
     (c .read-across .ensures)
 
 pub read-number-spec : {M : Type 1} → statement M

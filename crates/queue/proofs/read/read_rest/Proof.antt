@@ -14,8 +14,10 @@ read-direction-requires c κs = search needs
 
 returns : tie.Need-returns
 returns c =
-    let a = c .before .before .before .before .before .args in
-    c .read-direction .ensures ∙ rw (c .before .whole-line .ensures) (made-plain (a .set) (a .last) (a .older .now ++ a .newer .now) (a .x) (a .y) (a .at) (c .before .before .if1 .taken))
+    let i1 = c .before .before in
+    let a = i1 .before .before .before .args in
+    c .read-direction .ensures ∙ rw (c .before .whole-line .ensures)
+    (made-plain (a .set) (a .last) (a .older .now ++ a .newer .now) (a .x) (a .y) (a .at) (i1 .if1 .taken))
 
 read-parameters-requires : tie.Need-read-parameters-requires
 read-parameters-requires c κs = search needs
@@ -24,4 +26,6 @@ returns-2 : tie.Need-returns-2
 returns-2 c = c .read-parameters .ensures
 
 pub read-rest-spec : {M : Type 1} → statement M
-read-rest-spec = tie.close (tie.spec whole-line-requires read-direction-requires returns read-parameters-requires returns-2)
+read-rest-spec =
+    tie.close
+    (tie.spec whole-line-requires read-direction-requires returns read-parameters-requires returns-2)

@@ -14,7 +14,8 @@ use Rattle.queue.proofs.read.read_word.Tie as tie
 
 abbrev Inv-loop : tie.InvT-loop
 Inv-loop older newer at v₀ i₀ v i =
-    (i ≤ 8) × (v < 2 ^ (8 * i)) × (ofBigEndianFrom v (take (8 - i) (drop (at + i) (older ++ newer))) ≡ ofBigEndian (take 8 (drop at (older ++ newer))))
+    (i ≤ 8) × (v < 2 ^ (8 * i)) × (ofBigEndianFrom v (take (8 - i) (drop (at + i) (older ++ newer))) ≡ ofBigEndian
+    (take 8 (drop at (older ++ newer))))
 
 abbrev μ-loop : tie.MeasureT-loop
 μ-loop older newer at v₀ i₀ v i = 8 - i
@@ -24,8 +25,10 @@ byte : (c : tie.After-wide Inv-loop μ-loop) → c .wide .result < 256
 byte c =
     let a = c .before .before .before .before .before .before .args in
     rw (c .wide .ensures, c .before .byte-at .ensures)
-    (both-bytes (a .older .now) (a .newer .now) (λ i. omega (arith, c .before .before .before .before .before .shared-slice-known .given i))
-    (λ i. omega (arith, c .before .before .before .before .shared-slice-known2 .given i)) (a .at + c .before .before .before .loop .i))
+    (both-bytes (a .older .now) (a .newer .now)
+    (λ i. omega (arith, c .before .before .before .before .before .shared-slice-known .given i))
+    (λ i. omega (arith, c .before .before .before .before .shared-slice-known2 .given i))
+    (a .at + c .before .before .before .loop .i))
 
 loop-holds : tie.Need-loop-holds Inv-loop μ-loop
 loop-holds c = (omega arith, omega arith, rw add-zero)
@@ -58,7 +61,8 @@ loop-again c =
       omega arith,
       word-fits (l .i) (l .v) (c .wide .result) (l .inv .1) (byte c),
       rw (c .wide .ensures, c .before .byte-at .ensures)
-          (word-step (a .older .now ++ a .newer .now) (a .at) (l .i) (l .v) (omega arith) (simp length-append (omega arith)) ∙ l .inv .2),
+          (word-step (a .older .now ++ a .newer .now) (a .at) (l .i) (l .v) (omega arith)
+          (simp length-append (omega arith)) ∙ l .inv .2),
     )
 
 returns : tie.Need-returns Inv-loop μ-loop

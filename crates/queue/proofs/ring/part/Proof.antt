@@ -1,4 +1,5 @@
--- `part` meets its contract: each of its three answers is a law of `RingLaws`, and so is where it lies. Assumes nothing.
+-- `part` meets its contract: each of its three answers is a law of `RingLaws`, and so is where it lies. Assumes
+-- nothing.
 use borrow.Author.Needs.{needs}
 use Rattle.queue.proofs.RingLaws.{part-older, part-newer, part-end, place-older, place-newer, place-end}
 use Rattle.queue.proofs.ring.part.Statement.{statement}
@@ -33,9 +34,12 @@ part-result-end-2 c = search needs
 
 returns-2 : tie.Need-returns-2
 returns-2 c =
-    let a = c .before .before .before .args in
-    let h = c .before .before .if1 .left in
-    (part-newer (a .older .now) (a .newer .now) (a .at) h, place-newer (a .older .ptr) (a .newer .ptr) _ _ (a .at) h (c .before .if2 .taken))
+    let i1 = c .before .before in
+    let a = i1 .before .args in
+    let h = i1 .if1 .left in (
+      part-newer (a .older .now) (a .newer .now) (a .at) h,
+      place-newer (a .older .ptr) (a .newer .ptr) _ _ (a .at) h (c .before .if2 .taken),
+    )
 
 sub-result-3 : tie.Need-sub-result-3
 sub-result-3 c = search needs
@@ -48,8 +52,9 @@ part-result-end-3 c = search needs
 
 returns-3 : tie.Need-returns-3
 returns-3 c =
-    let a = c .before .before .before .args in
-    let h = c .before .before .if1 .left in
+    let i1 = c .before .before in
+    let a = i1 .before .args in
+    let h = i1 .if1 .left in
     let k = c .before .if2 .left in
     (part-end (a .older .now) (a .newer .now) (a .at) h k, place-end (a .older .ptr) (a .newer .ptr) _ _ (a .at) h k)
 

@@ -36,13 +36,15 @@ add-i c = omega arith
 loop-less : tie.Need-loop-less Inv-loop μ-loop
 loop-less c = omega arith
 
--- the position after a turn
+-- the position after a pass
 moved : (c : tie.Joined1 Inv-loop μ-loop)
-    → (c .if1 .p ≡ next (length (c .before .before .before .loop .ring)) (c .before .before .before .loop .p)) × (c .if1 .p < length (c .before .before .before .loop .ring))
+    → (c .if1 .p ≡ next (length (c .before .before .before .loop .ring)) (c .before .before .before .loop .p))
+    × (c .if1 .p < length (c .before .before .before .loop .ring))
 moved c =
     let l = c .before .before .before .loop in
     ⊎-elim
-    (λ w. let h : l .p + 1 ≡ length (l .ring) = w .0 .taken ∙ simp length-set in (w .1 ∙ sym (next-end (length (l .ring)) (l .p) h), omega (arith, w .1)))
+    (λ w. let h : l .p + 1 ≡ length (l .ring) = w .0 .taken ∙ simp length-set in
+    (w .1 ∙ sym (next-end (length (l .ring)) (l .p) h), omega (arith, w .1)))
     (λ w.
     let g : l .p + 1 ≡ length (l .ring) → ⊥ = (λ e. w .0 .left (e ∙ sym (simp length-set))) in
     (w .1 ∙ sym (next-on (length (l .ring)) (l .p) g), omega (arith, w .1, g)))
@@ -55,7 +57,8 @@ loop-again c =
       omega arith,
       simp length-set (l .inv .1),
       simp length-set (moved c .1),
-      rw (moved c .0) (stored-step (l .ring) (a .source .now) (l .p) (l .i) (a .count) (omega arith) (omega arith) ∙ l .inv .3),
+      rw (moved c .0) (stored-step (l .ring) (a .source .now) (l .p) (l .i) (a .count) (omega arith) (omega arith)
+          ∙ l .inv .3),
     )
 
 same-length : tie.Need-same-length Inv-loop μ-loop

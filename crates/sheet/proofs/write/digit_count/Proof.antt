@@ -2,7 +2,7 @@
 use mathlib.Core.Path.{_≡_, refl, _∙_}
 use Prim.Native.Nat.{_-_, _^_, _≤_, _<_}
 use native.Mathlib.Omega.{arith}
-use Rattle.sheet.specs.Writing.{placesFrom, digitCount}
+use Rattle.sheet.specs.Decimal.{placesFrom, digitCount}
 use Rattle.sheet.proofs.WritingLaws.{places-found, places-on, places-end}
 use Rattle.sheet.proofs.write.digit_count.Statement.{statement}
 use Rattle.sheet.proofs.write.digit_count.Tie as tie

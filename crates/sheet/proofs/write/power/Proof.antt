@@ -2,7 +2,7 @@
 use mathlib.Core.Path.{_≡_, refl}
 use Prim.Native.Nat.{_-_, _^_, _≤_}
 use native.Mathlib.Omega.{arith}
-use Rattle.sheet.proofs.WritingLaws.{power-next, power-turn}
+use Rattle.sheet.proofs.WritingLaws.{power-next, power-pass}
 use native.Mathlib.Nat.{one-le-pow}
 use borrow.Author.Needs.{needs}
 use Rattle.sheet.proofs.write.power.Statement.{statement}
@@ -27,7 +27,7 @@ loop-less : tie.Need-loop-less Inv-loop μ-loop
 loop-less c = search needs
 
 loop-again : tie.Need-loop-again Inv-loop μ-loop
-loop-again c = (omega arith, power-turn (c .before .loop .i) (c .before .loop .r) (c .before .loop .inv .1))
+loop-again c = (omega arith, power-pass (c .before .loop .i) (c .before .loop .r) (c .before .loop .inv .1))
 
 returns : tie.Need-returns Inv-loop μ-loop
 returns c =

@@ -4,7 +4,7 @@ use Prim.Native.Nat.{_+_, _-_, _≤_}
 use native.Mathlib.Omega.{arith}
 use native.Mathlib.Nat.{add-zero}
 use lib.ListN.{length, drop, length-set}
-use Rattle.sheet.specs.Writing.{written}
+use Rattle.sheet.specs.WritingComputed.{written}
 use Rattle.sheet.proofs.WritingLaws.{write-next, write-end}
 use borrow.Author.Needs.{needs}
 use Rattle.sheet.proofs.write.put_bytes.Statement.{statement}

@@ -3,7 +3,8 @@ use mathlib.Core.Path.{_≡_, refl, _∙_}
 use native.Mathlib.Omega.{arith}
 use Prim.Native.Nat.{_+_, _-_, _≤_}
 use lib.ListN.{length, length-set}
-use Rattle.sheet.specs.Writing.{written, digitsBelow}
+use Rattle.sheet.specs.Decimal.{digitsBelow}
+use Rattle.sheet.specs.WritingComputed.{written}
 use Rattle.sheet.proofs.WritingLaws.{write-digit, write-digits-end, digits-start}
 use Rattle.sheet.proofs.write.put_number.Statement.{statement}
 use Rattle.sheet.proofs.write.put_number.Tie as tie

@@ -1,6 +1,6 @@
 -- `write::put_row` meets its contract. Assumes nothing.
 use native.Mathlib.Omega.{arith}
-use Rattle.sheet.specs.Text.{symbolOf}
+use Rattle.sheet.specs.WritingComputed.{symbolOf}
 use lib.ListN.{length-map}
 use Rattle.sheet.proofs.WritingLaws.{puts-then}
 use borrow.Author.Needs.{needs}

@@ -5,8 +5,7 @@ use mathlib.Core.List.{map}
 use Prim.Native.Nat.{_+_, _-_, _≤_}
 use native.Mathlib.Nat.{add-zero}
 use lib.ListN.{length, drop, length-set, length-map}
-use Rattle.sheet.specs.Writing.{written}
-use Rattle.sheet.specs.Text.{symbolOf}
+use Rattle.sheet.specs.WritingComputed.{written, symbolOf}
 use Rattle.sheet.proofs.WritingLaws.{write-made, write-end}
 use Rattle.sheet.proofs.write.put_symbols.Statement.{statement}
 use Rattle.sheet.proofs.write.put_symbols.Tie as tie

@@ -1,16 +1,18 @@
 -- `write::symbol` meets its contract. Assumes nothing.
-use borrow.Author.Tests.{eq-eqb, ne-eqb}
+use mathlib.Core.Path.{_∙_, ap}
+use borrow.Author.Needs.{needs}
+use Rattle.image.specs.Cell.{characterOf}
 use Rattle.sheet.proofs.write.symbol.Statement.{statement}
 use Rattle.sheet.proofs.write.symbol.Tie as tie
 
+reading-of-requires : tie.Need-reading-of-requires
+reading-of-requires c κs = search needs
+
+reading-character-requires : tie.Need-reading-character-requires
+reading-character-requires c κs = search needs
+
 returns : tie.Need-returns
-returns c = rw (eq-eqb _ _ (c .if1 .taken))
-
-returns-2 : tie.Need-returns-2
-returns-2 c = rw (ne-eqb _ _ (c .before .if1 .left), eq-eqb _ _ (c .if2 .taken))
-
-returns-3 : tie.Need-returns-3
-returns-3 c = rw (ne-eqb _ _ (c .before .if1 .left), ne-eqb _ _ (c .if2 .left))
+returns c = c .reading-character .ensures ∙ ap characterOf (c .before .reading-of .ensures)
 
 pub symbol-spec : {M : Type 1} → statement M
-symbol-spec = tie.close (tie.spec returns returns-2 returns-3)
+symbol-spec = tie.close (tie.spec reading-of-requires reading-character-requires returns)

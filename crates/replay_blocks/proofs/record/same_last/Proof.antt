@@ -1,0 +1,32 @@
+-- `same_last` meets its contract. Assumes nothing.
+use Rattle.replay_blocks.specs.Record.{sameLast}
+use borrow.Author.Needs.{needs}
+use Rattle.replay_blocks.proofs.record.same_last.Statement.{statement}
+use Rattle.replay_blocks.proofs.record.same_last.Tie as tie
+
+same-bounds-requires : tie.Need-same-bounds-requires
+same-bounds-requires c κs = search needs
+
+same-bounds-requires-2 : tie.Need-same-bounds-requires-2
+same-bounds-requires-2 c κs = search needs
+
+same-bounds-requires-3 : tie.Need-same-bounds-requires-3
+same-bounds-requires-3 c κs = search needs
+
+same-bounds-requires-4 : tie.Need-same-bounds-requires-4
+same-bounds-requires-4 c κs = search needs
+
+returns : tie.Need-returns
+unfolding sameLast
+returns c =
+    rw (
+      c .before .before .before .before .before .before .before .same-bounds .ensures,
+      c .before .before .before .before .before .before .same-bounds2 .ensures,
+      c .before .before .before .before .before .same-bounds3 .ensures,
+      c .before .before .before .before .same-bounds4 .ensures,
+    )
+
+pub same-last-spec : {M : Type 1} → statement M
+same-last-spec =
+    tie.close
+    (tie.spec same-bounds-requires same-bounds-requires-2 same-bounds-requires-3 same-bounds-requires-4 returns)
