@@ -35,9 +35,8 @@ def evaluator(units):
 
 
 def drawn(units, steps):
-    chart = Chart(Setup(PIXELS, 1, X), ring=1 << 20)
-    while not chart.finished and chart.steps < steps:
-        chart.step_with(evaluator(units))
+    chart = Chart(Setup(PIXELS, 1, X), steps=steps)
+    chart.refine(evaluator(units), steps)
     return "".join(".?#"[byte] for byte in chart.picture()), chart.queued
 
 

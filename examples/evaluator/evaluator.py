@@ -14,6 +14,7 @@ from smyrilox import AREA, M, NO, UNDECIDED, X, Y, Chart, Setup, found_at, simpl
 WIDTH, HEIGHT = 60, 40  # pixels
 ARRIVALS, CREW = 110, 29  # what the right and the upper edge stand for; the left and the lower stand for 0
 DOORS = (1.0, 9.0)
+STEPS = 5000  # at most
 
 
 def down(x):
@@ -65,15 +66,14 @@ def sampled(block, m):
 
 
 def main():
-    chart = Chart(Setup(WIDTH, HEIGHT, X | Y | M, m=DOORS), ring=1 << 16)
-    evaluations = 0
-    while not chart.finished and chart.steps < 5000:
-        evaluations += chart.step_with(verdict).evaluations
+    chart = Chart(Setup(WIDTH, HEIGHT, X | Y | M, m=DOORS), steps=STEPS)
+    run = chart.refine(verdict, STEPS)
+    if run.stop:
+        sys.exit(f"evaluator.py: {run.why}")
     n = chart.counts()
-    ending = "more" if not chart.finished else "limit" if n.given_up else "done"
     print("title some number of doors, 1 to 9, serves the hour")
     print(f"x 0 {ARRIVALS} arrivals (trailers an hour)\ny 0 {CREW} crew (people)")
-    print(f"size {WIDTH} {HEIGHT} steps {chart.steps} evals {evaluations} {ending}")
+    print(f"size {WIDTH} {HEIGHT} steps {run.steps} evals {run.evaluations} {run.ending}")
     print(f"true {n.yes} false {n.no} uncertain {n.uncertain} givenup {n.given_up} queued {n.queued} share {n.share}")
     for row in chart.rows():
         print("".join(".?#"[byte] for byte in row))

@@ -1,7 +1,7 @@
 //! An evaluator in full, the same as evaluator.py: with 1 to 9 doors open, can a crew serve the arrivals of an hour?
 //! A door takes 12 trailers an hour and 3 people; two people unload 7 trailers.
 
-use smyrilox::{leaves, Block, Chart, Interval, Refusal, Setup, Variables, Verdict};
+use smyrilox::{leaves, Block, Chart, Ending, Interval, Refusal, Run, Setup, Variables, Verdict};
 
 /// Pixels, and what the right and the upper edge stand for; the left and the lower stand for 0.
 const WIDTH: u32 = 60;
@@ -9,6 +9,8 @@ const HEIGHT: u32 = 40;
 const ARRIVALS: f64 = 110.0;
 const CREW: f64 = 29.0;
 const DOORS: Interval = Interval::new(1.0, 9.0);
+/// At most.
+const STEPS: u32 = 5000;
 
 type Bounds = (f64, f64);
 
@@ -82,27 +84,25 @@ fn main() -> Result<(), Refusal> {
         m: DOORS,
         ..Setup::new(WIDTH, HEIGHT, plane | Variables::M)
     };
-    let mut chart = Chart::new(&setup, 1 << 16)?;
-    let mut evaluations = 0;
-    while !chart.is_finished() && chart.steps() < 5000 {
-        evaluations += chart.step_with(verdict)?.evaluations;
-    }
-    print(&chart, evaluations)
+    let mut chart = Chart::for_steps(&setup, STEPS)?;
+    let run = chart.refine(verdict, STEPS)?;
+    print(&chart, &run)
 }
 
 /// As the program prints a chart, with its title and axes in front.
-fn print(chart: &Chart, evaluations: u64) -> Result<(), Refusal> {
-    let n = chart.counts()?;
-    let ending = match (chart.is_finished(), n.given_up) {
-        (false, _) => "more",
-        (true, 0) => "done",
-        (true, _) => "limit",
+fn print(chart: &Chart, run: &Run) -> Result<(), Refusal> {
+    let ending = match run.ending {
+        Ending::Done => "done",
+        Ending::Limit => "limit",
+        Ending::More => "more",
+        Ending::Stop(why) => return Err(why),
     };
+    let n = chart.counts()?;
     println!("title some number of doors, 1 to 9, serves the hour");
     println!("x 0 {ARRIVALS} arrivals (trailers an hour)\ny 0 {CREW} crew (people)");
     println!(
-        "size {WIDTH} {HEIGHT} steps {} evals {evaluations} {ending}",
-        chart.steps()
+        "size {WIDTH} {HEIGHT} steps {} evals {} {ending}",
+        run.steps, run.evaluations
     );
     println!(
         "true {} false {} uncertain {} givenup {} queued {} share {}",
