@@ -266,9 +266,9 @@ opposite S.No = S.Yes
 opposite S.Outside = S.Outside
 
 -- every one is True exactly if none is not
-all-turned : (width height : ℕ) (r : PixelRange) (l : List ℕ) → allTrueSeen width height r l ≡ opposite (someSeen width height r K.Unmarked l)
+all-opposite : (width height : ℕ) (r : PixelRange) (l : List ℕ) → allTrueSeen width height r l ≡ opposite (someSeen width height r K.Unmarked l)
 unfolding allTrueSeen someSeen
-all-turned width height r l =
+all-opposite width height r l =
     ap (λ (b : Bool). cond (pictureReady width height r (length l)) (seenIf b) S.Outside)
     (every-some isMarked (heldCells width r (meanings l)) ∙ ap not (sym (unmarked-some (heldCells width r (meanings l)))))
     ∙ go (pictureReady width height r (length l)) (someOf (ofKind K.Unmarked) (heldCells width r (meanings l)))
@@ -280,7 +280,7 @@ all-turned width height r l =
 
 pub all-true : (width height : ℕ) (r : PixelRange) (l : List ℕ) (s a : Seen) → s ≡ someSeen width height r K.Unmarked l → opposite s ≡ a
     → a ≡ allTrueSeen width height r l
-all-true width height r l s a e f = sym f ∙ ap opposite e ∙ sym (all-turned width height r l)
+all-true width height r l s a e f = sym f ∙ ap opposite e ∙ sym (all-opposite width height r l)
 
 pub tally-outside : (width height : ℕ) (r : PixelRange) (taken : ℕ) (l : List ℕ) → pictureReady width height r (length l) ≡ false
     → tallyAnswer width height r taken l ≡ A.Outside

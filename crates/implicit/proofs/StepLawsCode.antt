@@ -118,23 +118,23 @@ seen-damage p b cells h = let r = rectangle-ready (b .x) (b .y) (p .width) (p .h
 
 -- where the answer is known
 module _ (p : Chosen) (b : Block) (cells : List ℕ) (h : leb (pixelCount p) (length cells) ≡ true) (v : Seen) (e : v ≡ damageSeen p b cells) where
-  told : v ≡ seenIf (cellDamaged p b (meanings cells))
-  told = e ∙ seen-damage p b cells h
+  as-seen : v ≡ seenIf (cellDamaged p b (meanings cells))
+  as-seen = e ∙ seen-damage p b cells h
 
   pub fine-damaged : v ≡ S.Yes → false ≡ blockSound p cells b
   fine-damaged k =
       cases (cellDamaged p b (meanings cells)) (λ d. rw d (sym (and-false (undamaged p b))))
-      (λ d. (let j : S.Yes ≡ seenIf false = sym k ∙ told ∙ ap seenIf d in let z : _≡_ {A = ℕ} 0 1 = cc in absurd (omega arith)))
+      (λ d. (let j : S.Yes ≡ seenIf false = sym k ∙ as-seen ∙ ap seenIf d in let z : _≡_ {A = ℕ} 0 1 = cc in absurd (omega arith)))
 
   pub fine-as : v ≡ S.No → (n : ℕ) → legalChosen p ≡ true → n ≡ length (childrenOf p b) → ltb 0 n ≡ blockSound p cells b
   fine-as k n l f =
-      cases (cellDamaged p b (meanings cells)) (λ d. (let j : S.No ≡ seenIf true = sym k ∙ told ∙ ap seenIf d in let z : _≡_ {A = ℕ} 0 1 = cc in absurd (omega arith)))
+      cases (cellDamaged p b (meanings cells)) (λ d. (let j : S.No ≡ seenIf true = sym k ∙ as-seen ∙ ap seenIf d in let z : _≡_ {A = ℕ} 0 1 = cc in absurd (omega arith)))
       (λ d. rw d (child-undamaged p b n l f ∙ sym (and-true (undamaged p b))))
 
   pub fine-never : {X : Type 0} → v ≡ S.Outside → X
   fine-never k =
-      cases (cellDamaged p b (meanings cells)) (λ d. (let j : S.Outside ≡ seenIf true = sym k ∙ told ∙ ap seenIf d in let z : _≡_ {A = ℕ} 0 1 = cc in absurd (omega arith)))
-      (λ d. (let j : S.Outside ≡ seenIf false = sym k ∙ told ∙ ap seenIf d in let z : _≡_ {A = ℕ} 0 1 = cc in absurd (omega arith)))
+      cases (cellDamaged p b (meanings cells)) (λ d. (let j : S.Outside ≡ seenIf true = sym k ∙ as-seen ∙ ap seenIf d in let z : _≡_ {A = ℕ} 0 1 = cc in absurd (omega arith)))
+      (λ d. (let j : S.Outside ≡ seenIf false = sym k ∙ as-seen ∙ ap seenIf d in let z : _≡_ {A = ℕ} 0 1 = cc in absurd (omega arith)))
 
 module _ (p : Chosen) (b : Block) (cells : List ℕ) (children verdicts : ℕ) (tape t : Bool) (is-t : t ≡ blockSound p cells b) where
   pub check-damaged : not t ≡ true → C.Refused R.Damaged ≡ blockCheck p b cells children verdicts tape

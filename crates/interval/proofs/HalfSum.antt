@@ -63,8 +63,8 @@ clash a b h k = omega arith
 level-off : (a b : ℕ) → b ≤ a → a ≤ b → a - b ≡ b - a
 level-off a b h k = omega arith
 
-turned : (a b c : ℕ) → cond (ltb a b) (round binary64 false (b - a) c) (round binary64 (ltb b a) (a - b) c) ≡ cond (ltb b a) (round binary64 true (a - b) c) (round binary64 false (b - a) c)
-turned a b c = go (ltb a b) (ltb b a) (ltb→lt a b) (ltb→lt b a) (nltb→le a b) (nltb→le b a)
+reversed : (a b c : ℕ) → cond (ltb a b) (round binary64 false (b - a) c) (round binary64 (ltb b a) (a - b) c) ≡ cond (ltb b a) (round binary64 true (a - b) c) (round binary64 false (b - a) c)
+reversed a b c = go (ltb a b) (ltb b a) (ltb→lt a b) (ltb→lt b a) (nltb→le a b) (nltb→le b a)
   where
     go : (x y : Bool) → (T x → a < b) → (T y → b < a) → (T (not x) → b ≤ a) → (T (not y) → a ≤ b)
         → cond x (round binary64 false (b - a) c) (round binary64 y (a - b) c) ≡ cond y (round binary64 true (a - b) c) (round binary64 false (b - a) c)
@@ -77,7 +77,7 @@ pub integer-sum : (s : Bool) (a : ℕ) (t : Bool) (b c : ℕ) → 0 < c → plus
 unfolding rounded sum
 integer-sum false a false b c C = refl
 integer-sum false a true b c C = ap plusZero (sym (sub-rounded a b c) ∙ ap (λ (z : ℤ). rounded z c) (sym (plus-neg a b)))
-integer-sum true a false b c C = ap plusZero (turned a b c ∙ sym (sub-rounded b a c) ∙ ap (λ (z : ℤ). rounded z c) (sym (+ℤ-comm (negℤ (pos a)) (pos b) ∙ plus-neg b a)))
+integer-sum true a false b c C = ap plusZero (reversed a b c ∙ sym (sub-rounded b a c) ∙ ap (λ (z : ℤ). rounded z c) (sym (+ℤ-comm (negℤ (pos a)) (pos b) ∙ plus-neg b a)))
 integer-sum true a true b c C = neg-rounded (a + b) c C ∙ ap (λ (z : ℤ). plusZero (rounded z c)) (negℤ-+ℤ (pos a) (pos b))
 
 -- ---- the two paths

@@ -250,7 +250,7 @@ pub near-neg : (x : Float) → T (fits binary64 x) → plusZero (neg (wholeNear 
 near-neg nan f = unfold wholeNear neg zeroAs in refl
 near-neg (inf true) f = unfold wholeNear neg zeroAs in refl
 near-neg (inf false) f = unfold wholeNear neg zeroAs in refl
-near-neg (fin s m e) f = turned ∙ sym (whole-at s m e p)
+near-neg (fin s m e) f = mirrored ∙ sym (whole-at s m e p)
   where
     p : Placed binary64 s (fin s m e)
     p = placed binary64 s m e f
@@ -261,8 +261,8 @@ near-neg (fin s m e) f = turned ∙ sym (whole-at s m e p)
     negated : neg (fin s m e) ≡ fin (not s) m e
     negated = unfold neg in refl
 
-    turned : plusZero (neg (wholeNear (neg (fin s m e)))) ≡ plusZero (round binary64 s (halfUp X) 1)
-    turned =
+    mirrored : plusZero (neg (wholeNear (neg (fin s m e)))) ≡ plusZero (round binary64 s (halfUp X) 1)
+    mirrored =
         ap (λ (z : Float). plusZero (neg z)) (ap wholeNear negated ∙ whole-at (not s) m e (neg-placed s m e p))
         ∙ as-neg false false (round binary64 (not s) (halfUp X) 1)
         ∙ ap plusZero (negated-round binary64 (not s) (halfUp X) 1)

@@ -93,11 +93,11 @@ finite-width a b k n g lit few fa fb ga gb wa wb l =
     ∙ whole-test (d .0) k few
     ∙ sym (ap (λ (z : ℤ). eqb (natAbs z) (k * U)) e ∙ units-eq (d .0) k U (pow-pos 1074))
   where
-    open-pos : (n : ℕ) → rounded (pos n) (2 ^ 1074) ≡ round binary64 false n (2 ^ 1074)
-    open-pos n = unfold rounded in refl
+    rounded-pos : (n : ℕ) → rounded (pos n) (2 ^ 1074) ≡ round binary64 false n (2 ^ 1074)
+    rounded-pos n = unfold rounded in refl
 
     whole-rounded : (d : ℕ) → plusZero (rounded (pos (d * 2 ^ 1074)) (2 ^ 1074)) ≡ plusZero (num d)
-    whole-rounded d = ap plusZero (open-pos (d * 2 ^ 1074) ∙ round-same binary64 false (d * 2 ^ 1074) (2 ^ 1074) d 1 (pow-pos 1074) (zero-lt-suc 0) (mul-one (d * 2 ^ 1074)))
+    whole-rounded d = ap plusZero (rounded-pos (d * 2 ^ 1074) ∙ round-same binary64 false (d * 2 ^ 1074) (2 ^ 1074) d 1 (pow-pos 1074) (zero-lt-suc 0) (mul-one (d * 2 ^ 1074)))
 
 -- with infinite ends too: the difference is +inf
 legal-width : (a b : Float) (k n : ℕ) (g : ℤ) → num k ≡ fin false (suc n) g → suc k ≤ 2 ^ 53 → T (fits binary64 a) → T (fits binary64 b) → legalBounds a b ≡ true → T (wholeBound a) → T (wholeBound b)

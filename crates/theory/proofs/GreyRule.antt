@@ -44,15 +44,15 @@ module _ {Block Pixel : Type 0} (covers : Block → Pixel → Bool) where
   none-some (b ∷ q) p n (inr h) = none-some q p (n .1) h
 
   module _ (spare : Bool) {n : ℕ} {s₀ s : Snapshot Block Pixel} (z : AcceptedSetup covers s₀) (r : FinishedSteps covers spare n s₀ s) (p : Pixel) where
-    abbrev Open : Type 0
-    Open = WasGivenUp covers spare r p ⊎ Some (λ b. T (covers b p)) (s .queue)
+    abbrev StillGrey : Type 0
+    StillGrey = WasGivenUp covers spare r p ⊎ Some (λ b. T (covers b p)) (s .queue)
 
     -- by what stands in the cell
-    by-cell : pixelReads s p ≡ readsUncertain → Open
+    by-cell : pixelReads s p ≡ readsUncertain → StillGrey
     unfolding pixelReads
     by-cell e = go (s .cells p) refl
       where
-        go : (v : Standing) → s .cells p ≡ v → Open
+        go : (v : Standing) → s .cells p ≡ v → StillGrey
         go markedTrue f = absurd (grey-not-true e (reads-true (s .taken) (s .cells p) .1 f))
         go givenUp f = inl (now-was covers spare z r p f)
         go (named m) f = elim (decLt m (s .taken)) [
@@ -61,8 +61,8 @@ module _ {Block Pixel : Type 0} (covers : Block → Pixel → Bool) where
               inr (some-at (s .queue) (m - s .taken) p (o .covering (m - s .taken) (omega arith))))
         ]
 
-    not-white : Open → ¬ (pixelReads s p ≡ readsFalse)
+    not-white : StillGrey → ¬ (pixelReads s p ≡ readsFalse)
     not-white o e = let w = false-by-events covers spare z r p .0 e in ⊎-elim (w .1) (none-some (s .queue) p (w .2)) o
 
-    pub grey-by-events : (pixelReads s p ≡ readsUncertain) ↔ ((¬ (pixelReads s p ≡ readsTrue)) × Open)
+    pub grey-by-events : (pixelReads s p ≡ readsUncertain) ↔ ((¬ (pixelReads s p ≡ readsTrue)) × StillGrey)
     grey-by-events = ((λ e. (grey-not-true e, by-cell e)), (λ (not-true, o). third (pixelReads s p) not-true (not-white o)))
