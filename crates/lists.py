@@ -1,4 +1,4 @@
-"""lists.py: what the makers of the replays share that is no model of document 01.
+"""lists.py: what the makers of the replays share that is no model of the documents.
 
 A double as its 64 bits: a number, bytes with the higher first, or 16 hexadecimal digits. The sheet that the program
 `chart` reads. Lines that were recorded, and the two files of a replay: the list that it plays, and what it must print.

@@ -22,7 +22,7 @@ loader.exec_module(picture)
 def text_of(rows, ending="more", head=""):
     pixels = "".join(rows)
     grey = pixels.count("?")
-    share = (2000 * (len(pixels) - grey) + len(pixels)) // (2 * len(pixels))
+    share = 1000 * (len(pixels) - grey) // len(pixels)
     counts = f"true {pixels.count('#')} false {pixels.count('.')} uncertain {grey} givenup 0 queued 3 share {share}"
     return f"{head}size {len(rows[0])} {len(rows)} steps 7 evals 20 {ending}\n{counts}\n" + "\n".join(rows) + "\n"
 
@@ -79,7 +79,7 @@ class Pictures(unittest.TestCase):
         words = [t.firstChild.data for t in xml.dom.minidom.parseString(svg).getElementsByTagName("text")]
         for wanted in ("A < b & c", "arrivals (trailers an hour)", "crew", "no mix works", "some mix works", "not known", "60", "0"):
             self.assertIn(wanted, words)
-        self.assertIn("7 steps, 66.7 % settled (1 of 3 pixels not known); stopped by refusal 6", words)
+        self.assertIn("7 steps, 66.6 % settled (1 of 3 pixels not known); stopped by refusal 6", words)
         self.assertIn(picture.PAPER, svg)
 
     def test_ticks(self):

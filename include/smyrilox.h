@@ -216,7 +216,8 @@ typedef struct {
     smyrilox_state state;
 } smyrilox_ran;
 
-/* Pixels by reading; given-up cells, which are uncertain too; blocks waiting; settled pixels in thousandths, to the nearest, half up. */
+/* Pixels by reading; given-up cells, which are uncertain too; blocks waiting; settled pixels (True or False) in thousandths of all, rounded down:
+ * share is 1000 exactly if no pixel is uncertain. */
 typedef struct {
     uint64_t trues;
     uint64_t falses;

@@ -178,6 +178,27 @@ static void counted(void) {
     check(c.counts.givenup == 3 && c.counts.queued == 0, "the third is given up too");
 }
 
+/* 64 by 64 pixels. Six steps mark all but the top row's last, which then waits; 31 more cut its last quarter on, and the last byte is that of
+ * its part on the lowest level. Waiting or given up the pixel is not settled, and the share, rounded down, is not 1000. */
+static void all_but_one(uint8_t last, uint64_t ending, uint64_t givenup, uint64_t share) {
+    static uint64_t cells[4096];
+    uint8_t ring[64], tape[38 * 4] = {SMYRILOX_NO};
+    memset(tape, SMYRILOX_YES, 6 * 4);
+    for (size_t i = 3; i < sizeof tape; i += 4) {
+        tape[i] = SMYRILOX_UNDECIDED;
+    }
+    tape[sizeof tape - 1] = last;
+    smyrilox_started s = smyrilox_setup(chosen(64, 64, 48), whole, ring, sizeof ring, cells, 4096);
+    smyrilox_ran r = smyrilox_run(s.state, ring, sizeof ring, cells, 4096, tape, sizeof tape, 6);
+    smyrilox_counted c = smyrilox_counts(r.state, cells, 4096);
+    check(r.ending == 3 && c.counts.trues == 4095 && c.counts.uncertain == 1 && c.counts.queued == 1, "one pixel waits");
+    check(c.counts.share == 999, "4095 of 4096 settled");
+    r = smyrilox_run(r.state, ring, sizeof ring, cells, 4096, tape + 24, sizeof tape - 24, 99);
+    c = smyrilox_counts(r.state, cells, 4096);
+    check(r.ending == ending && r.steps == 32 && c.counts.queued == 0, "the chart is finished");
+    check(c.counts.givenup == givenup && c.counts.uncertain == givenup && c.counts.share == share, "1000 only if none is given up");
+}
+
 /* A run of two pixels: done, and stopped by a number. */
 static void endings(void) {
     /* the first pixel's first quarter holds a solution at the simple fraction, the first of its points: 2, and the others are skipped */
@@ -334,6 +355,8 @@ int main(void) {
     reserved();
     all_parameters();
     counted();
+    all_but_one(SMYRILOX_UNDECIDED, 2, 1, 999);
+    all_but_one(SMYRILOX_YES | SMYRILOX_AREA, 1, 0, 1000);
     endings();
     points();
     leaves();

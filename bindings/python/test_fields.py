@@ -94,6 +94,15 @@ class Fields(unittest.TestCase):
         self.assertEqual([row.hex() for row in chart.rows()], ["0000000002", "0000000002", "0202000001", "0202010001"])
         self.assertEqual(chart.run(b"\x60\0\0\0", 9), Run("limit", 0, steps=1, evaluations=9, tape=4))
 
+    def test_all_but_one_is_not_the_whole(self):
+        """The share is rounded down: a pixel that waits, or that is given up at the end, keeps it under 1000."""
+        for last, ending, given_up, share in (("40", "limit", 1, 999), ("a0", "done", 0, 1000)):
+            chart = Chart(Setup(64, 64, X | Y), 64)
+            chart.run(bytes.fromhex("80808040" * 6), 6)
+            self.assertEqual(chart.counts(), Counts(yes=4095, no=0, uncertain=1, given_up=0, queued=1, share=999))
+            self.assertEqual(chart.run(bytes.fromhex("00000040" * 31 + "000000" + last), 99).ending, ending)
+            self.assertEqual(chart.counts()[2:], (given_up, given_up, 0, share))
+
     def test_done_and_stop(self):
         done = Chart(Setup(2, 1, X | Y), 64).run(bytes.fromhex("4080 70000000"), 7)
         self.assertEqual(done, Run("done", 0, steps=2, evaluations=4, tape=6))

@@ -40,7 +40,7 @@ class Refine(unittest.TestCase):
     def test_progress(self):
         seen, chart = [], Chart(Setup(3, 3, X | Y), steps=10)
         chart.refine(corner, 5, lambda c, finished: seen.append((c is chart, finished, c.counts().share)))
-        self.assertEqual(seen, [(True, 1, 556), (True, 2, 1000)])
+        self.assertEqual(seen, [(True, 1, 555), (True, 2, 1000)])
 
     def test_what_the_evaluator_raises(self):
         """It comes out as it is, a refusal of a leaf too, and the finished steps are kept."""

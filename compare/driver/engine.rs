@@ -113,7 +113,7 @@ pub fn bits(x: Bounds) -> (u64, u64) {
     (x.0.to_bits(), x.1.to_bits())
 }
 
-/// Settled pixels in thousandths, to nearest, half up.
+/// Settled pixels in thousandths, rounded down.
 pub fn share(settled: u64, pixels: u64) -> u64 {
-    (2000 * settled + pixels) / (2 * pixels)
+    1000 * settled / pixels
 }

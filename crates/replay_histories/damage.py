@@ -197,10 +197,10 @@ def views(p):
             assert p.counts()[0] == (fault[0] if i != 2 else later[-1][0] if later else 0)
     p.world = full
     assert p.picture(b"")[0] == 12
-    for settled in range(17):  # shares, half up
+    for settled in range(17):  # shares, rounded down
         w = with_record(begun(16, 1, 48), taken=1, queued=1, used=0)._replace(cells=[0] * settled + [1] * (16 - settled))
         p.world = w
-        assert p.counts()[1][5] == (1000 * settled + 8) // 16
+        assert p.counts()[1][5] == 1000 * settled // 16
     for width, height in ((3, 1), (7, 1), (7, 3), (13, 11)):
         n = width * height
         for settled in (1, n // 2, n - 1):

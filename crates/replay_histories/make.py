@@ -1,10 +1,11 @@
 #!/usr/bin/env python3
 """make.py STORED VECTORS TRACES..: writes stdin and stdout, the list that the program `replay_histories` plays and what it must print.
 
-The answers are those of model.py, document 01 once more on Python's own numbers; tables.py has the list's format; cases.py, damage.py, rings.py, rooms.py and
-moves.py make cases up. The files named on the command line were recorded elsewhere: vectors.txt and traces.tsv; original.tsv, which compare/'s driver wrote
-(`driver record 20261115 40 8`) while it played the original; and the stored charts with n_theta, which the library once began. The model is held against
-every line of them, so that what is played is what they have.
+The answers are those of model.py, documents 01 and 02 once more on Python's own numbers; tables.py has the list's format; cases.py, damage.py, rings.py,
+rooms.py and moves.py make cases up. The files named on the command line were recorded elsewhere: vectors.txt and traces.tsv; original.tsv, which compare/'s
+driver wrote (`driver record 20261115 40 8`) while it played the original (document 02 rounds shares down: they were worked out again, each from its row's own
+counts); and the stored charts with n_theta, which the library once began. The model is held against every line of them, so that what is played is what
+they have.
 
     python3 make.py ../../bindings/stored/charts.txt vectors.txt traces.tsv original.tsv
 """

@@ -1,4 +1,4 @@
-"""model.py: document 01's engine on Python's own numbers and exact fractions, with nothing taken from the crates.
+"""model.py: the engine of documents 01 and 02 on Python's own numbers and exact fractions, with nothing taken from the crates.
 
 Every call answers a new world and changes none. A block is (x, y, level, (m, n, n_theta, t), direction); what is remembered is (x, y, (m, n, n_theta, t)).
 """
@@ -432,7 +432,7 @@ def counts(w):
         return 8, None
     seen = [reading(c, r.taken) for c in w.cells[:pixels]]
     settled = pixels - seen.count(1)
-    share = floor(Fraction(1000 * settled, pixels) + Fraction(1, 2))
+    share = floor(Fraction(1000 * settled, pixels))
     return 0, (seen.count(2), seen.count(0), seen.count(1), w.cells[:pixels].count(GIVEN), r.queued - r.taken, share)
 
 

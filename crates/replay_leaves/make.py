@@ -3,14 +3,16 @@
 
     python3 crates/replay_leaves/make.py        run from anywhere; the same bytes come out each time
 
-The answers are computed here from document 01 with whole numbers and fractions, by no code of the crates:
+The answers are computed here from documents 01 and 02 with whole numbers and fractions, by no code of the crates:
 a midpoint is the exact half sum as a fraction, rounded by Python's own division of whole numbers (which rounds once, to nearest, ties to even).
+Those of share.tsv were made from document 02 by another hand; they are played as they stand, and held against the ones computed here.
 
 A question has 25 bytes: its kind, then 24 bytes, unused ones 0.
     1  a number to code           x in 8 bytes, the more significant first (so are all numbers below)
     2  bytes to read as a code    how many (0 to 16), then the bytes
     3  a coordinate and a side    index in 8, level + 48 in 1, side in 4
     4  an interval                lower in 8 and upper in 8 (bit patterns), 1 for an integer parameter in 1
+    5  a share                    settled pixels in 4, all pixels in 4
 An answer is a line of hexadecimal numbers, each after a space; r and a number stands for a refusal.
 """
 import math
@@ -20,7 +22,7 @@ import sys
 from fractions import Fraction
 
 sys.path.append(os.path.join(os.path.dirname(os.path.abspath(__file__)), ".."))
-from lists import bits, bounds, of_bits, one_nan, write
+from lists import bits, bounds, lines_of, next_to, of_bits, one_nan, write
 
 INF = math.inf
 MAX = of_bits(0x7FEFFFFFFFFFFFFF)
@@ -204,6 +206,26 @@ def answers(lower, upper, integer):
     )
 
 
+# ---- the share
+
+
+def share(settled, pixels):
+    return math.floor(Fraction(1000 * settled, pixels)) if pixels else 0
+
+
+def shares():
+    """Settled pixels, all pixels and the share: the recorded ones; then every number settled of small pictures, and what no picture has."""
+    recorded = [tuple(map(int, line.split("\t"))) for line in lines_of(next_to(__file__, "share.tsv"))[1:]]
+    for settled, pixels, said in recorded:
+        assert share(settled, pixels) == said, (settled, pixels, said)
+    yield from recorded
+    top = 2**32 - 1
+    pairs = [(s, n) for n in (5, 6, 16, 20) for s in range(n + 1)]
+    pairs += [(0, 0), (1, 0), (top, 0), (0, top), (top - 1, top), (top, top), (top, 1), (3, 2), (4097, 4096)]
+    for settled, pixels in pairs:
+        yield settled, pixels, share(settled, pixels)
+
+
 # ---- the questions
 
 
@@ -264,6 +286,9 @@ def questions(rng):
         if rng.random() < 0.3:
             a, b = -b, -a
         yield 4, bounds((a, b)) + bytes([1]), interval(bits(a), bits(b), 1)
+
+    for settled, pixels, said in shares():
+        yield 5, settled.to_bytes(4, "big") + pixels.to_bytes(4, "big"), f"{said:x}"
 
 
 def main():

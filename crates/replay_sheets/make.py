@@ -1,8 +1,9 @@
 #!/usr/bin/env python3
 """make.py: writes data/sheets and stdout, the sheets that the program `replay_sheets` plays and what it must print.
 
-What a sheet prints is computed by model.py, from document 01 alone. The sheets of runs.txt, whole runs with the lines
-that they print, are held against the model first. src/main.rt says how the file is laid out.
+What a sheet prints is computed by model.py, from documents 01 and 02 alone. The sheets of runs.txt, whole runs with the
+lines that they print, and those of share.tsv, whose share would be another to the nearest thousandth, are held against the
+model first. src/main.rt says how the file is laid out.
 """
 import os
 import random
@@ -98,7 +99,7 @@ def lengths():
 
 
 def edges():
-    """A share that lies half way between two thousandths; budgets of one bit; one byte too many behind several heads."""
+    """Shares half way between two thousandths; budgets of one bit; one byte too many behind several heads."""
     out = [sheet(4, 4, 48, 2, tape=b"\x40\x40\x40\x40\x00\x40\x40\x40"), sheet(4, 4, 48, 2, tape=b"\x40\x40\x40\x40\x00\x00\x00\x40")]
     out += [sheet(2, 2, 48, 1 << bit, tape=b"\x80\x00\x80\x00") for bit in range(32)]
     return out + [s + bytes(n - len(s)) for s in (sheet(2, 1, 48, 5, tape=b"\x80\x00"), sheet(1, 1, 0, 1, tape=b"\x80")) for n in (16384, 16385)]
@@ -180,13 +181,45 @@ def large(rng):
     return out
 
 
+def rounded_down():
+    """Sheets of which document 02 changed the printed share, with what they print."""
+    rows = [line.split("\t") for line in lines_of(next_to(__file__, "share.tsv"))[1:]]
+    return [(bytes.fromhex(digits), text.replace("\\n", "\n")) for digits, text in rows]
+
+
+def all_but_the_corner(width, height):
+    """True where a square does not hold the last pixel of the top row, undecided where it does."""
+
+    def choose(c):
+        return 0x40 if (c["x"], c["y"]) == ((width - 1) >> c["k"], (height - 1) >> c["k"]) else 0x80
+
+    return choose
+
+
+def one_left():
+    """All pixels settled but one: it waits, or is given up at the end of a finished chart, and the share is 999; or it is settled too, and it is 1000.
+    And two of three."""
+    down = b"\x00\x00\x00\x40" * 31
+    last = {b"": "stop 4 999", down + b"\x00\x00\x00\x40": "limit 999", down + b"\x00\x00\x00\xa0": "done 1000", bytes(4): "done 1000"}
+    out = []
+    for width, height in ((64, 64), (50, 40)):
+        to_pixel = tape_for(width, height, 48, [], 6, all_but_the_corner(width, height))
+        for tape, said in last.items():
+            s = sheet(width, height, 48, 2**32 - 1, tape=to_pixel + tape)
+            first, counts = model.expected(s).split("\n")[:2]
+            assert " ".join(first.split()[7:] + counts.split()[-1:]) == said, (first, counts, said)
+            out.append(s)
+    return out + [sheet(3, 1, 48, 1, tape=b"\x80\x40")]
+
+
 def main():
     rng = random.Random(8)
-    known = recorded()
-    for s, text in known:
+    known, down = recorded(), rounded_down()
+    for s, text in known + down:
         assert model.expected(s) == text, s.hex()
-    assert len(known) > 10
+    assert len(known) > 10 and len(down) == 17
     cases = [s for s, _ in known] + lengths() + edges() + cut_parameters() + sides() + intervals() + sets(rng) + chances(rng, 240) + large(rng)
+    cases += [s for s, _ in down] + one_left()
     texts = [model.expected(s) for s in cases]
     ends = {}
     for t in texts:

@@ -1,6 +1,6 @@
-"""model.py: document 01 once more, in Python, from a sheet's bytes to the text that is printed.
+"""model.py: documents 01 and 02 once more, in Python, from a sheet's bytes to the text that is printed.
 
-It serves make.py (which writes what the program `replay_sheets` replays) and is written from the document, not from the crates.
+It serves make.py (which writes what the program `replay_sheets` replays) and is written from the documents, not from the crates.
 Floats are Python's; midpoints are exact fractions rounded once. `expected(sheet)` is the whole program.
 """
 import struct
@@ -290,7 +290,7 @@ def chart(sheet):
     rows = ["".join(e.reads(c) for c in e.cells[y * width : (y + 1) * width]) for y in range(height)]
     text = "".join(rows)
     t, f, u, n = text.count("#"), text.count("."), text.count("?"), width * height
-    share = (2000 * (t + f) + n) // (2 * n)
+    share = 1000 * (t + f) // n
     lines = ["size %d %d steps %d evals %d %s" % (width, height, steps, evals, ending)]
     lines.append("true %d false %d uncertain %d givenup %d queued %d share %d" % (t, f, u, e.cells.count(GIVENUP), len(e.queue), share))
     return "".join(line + "\n" for line in lines + rows)

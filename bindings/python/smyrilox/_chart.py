@@ -47,6 +47,9 @@ class Run(NamedTuple):
 
 
 class Counts(NamedTuple):
+    """Pixels by reading, given-up pixels (these are uncertain too), queued blocks, and the settled pixels (yes and no) in thousandths of
+    all, rounded down: `share` is 1000 exactly if no pixel is uncertain."""
+
     yes: int
     no: int
     uncertain: int

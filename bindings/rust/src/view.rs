@@ -2,7 +2,8 @@
 
 use crate::{ffi, Buffers, Chart, Picture, Refusal};
 
-/// Pixels by reading, given-up pixels (these are uncertain too), queued blocks, and the settled pixels in thousandths.
+/// Pixels by reading, given-up pixels (these are uncertain too), queued blocks, and the settled pixels (yes and no) in thousandths of
+/// all, rounded down: `share` is 1000 exactly if no pixel is uncertain.
 #[derive(Clone, Copy, Debug, PartialEq, Eq)]
 pub struct Counts {
     pub yes: u64,

@@ -48,6 +48,22 @@ fn one_by_one_ends_given_up() {
     assert_eq!((chart.counts().unwrap().given_up, chart.steps()), (1, 32));
 }
 
+/// The share is rounded down: a pixel that waits, or that is given up at the end, keeps it under 1000.
+#[test]
+fn all_but_one_is_not_the_whole() {
+    for (last, ending, share) in [(0x40, Ending::Limit, 999), (0xA0, Ending::Done, 1000)] {
+        let mut chart = Chart::new(&plane(64, 64), 64).unwrap();
+        chart.run(&[0x80, 0x80, 0x80, 0x40].repeat(6), 6).unwrap();
+        let waits = chart.counts().unwrap();
+        assert_eq!((waits.yes, waits.uncertain, waits.queued, waits.share), (4095, 1, 1, 999));
+        let mut tape = [0, 0, 0, 0x40].repeat(32);
+        tape[127] = last;
+        assert_eq!(chart.run(&tape, 99).unwrap().ending, ending);
+        let end = chart.counts().unwrap();
+        assert_eq!((end.queued, end.given_up, end.share), (0, (ending == Ending::Limit) as u64, share));
+    }
+}
+
 #[test]
 fn an_evaluator_is_asked() {
     let mut chart = Chart::new(&plane(3, 3), 4096).unwrap();

@@ -55,7 +55,7 @@ fn progress() {
     let mut chart = Chart::for_steps(&plane(3, 3), 10).unwrap();
     let mut seen = Vec::new();
     chart.refine_watched(corner, 5, |c, finished| seen.push((finished, c.counts().unwrap().share))).unwrap();
-    assert_eq!(seen, [(1, 556), (2, 1000)]);
+    assert_eq!(seen, [(1, 555), (2, 1000)]);
 }
 
 /// The chart of the fields' test after 100 steps: two pixels are given up, and one waits.

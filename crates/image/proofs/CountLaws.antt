@@ -1,5 +1,6 @@
 -- Laws of what a rectangle's cells show: some of a kind, every one, and the counts; and the passes of the loops. Assumes nothing.
 use mathlib.Core.Path.{_≡_, refl, sym, ap, _∙_}
+use mathlib.Core.Logic.{_↔_}
 use mathlib.Core.Bool.{Bool, true, false, not, cond, _&&_, _||_, true≢false, false≢true, or-assoc}
 use mathlib.Core.List.{List, [], _∷_, _++_, map-append}
 use Prim.Native.Nat.{ℕ, zero, suc, _+_, _-_, _*_, _^_, _≤_, _<_}
@@ -64,6 +65,17 @@ count-le test (c ∷ l) = go (test c) (count-le test l)
     go : (b : Bool) → countOf test l ≤ length l → cond b 1 0 + countOf test l ≤ suc (length l)
     go true h = omega arith
     go false h = omega arith
+
+-- none passes exactly if none is counted
+pub count-none : (test : Cell → Bool) (l : List Cell) → (countOf test l ≡ 0) ↔ (everyOf (λ c. not (test c)) l ≡ true)
+unfolding countOf everyOf
+count-none test [] = ((λ e. refl), (λ e. refl))
+count-none test (c ∷ l) = go (test c) (count-none test l)
+  where
+    go : (b : Bool) → (countOf test l ≡ 0) ↔ (everyOf (λ c. not (test c)) l ≡ true)
+        → (cond b 1 0 + countOf test l ≡ 0) ↔ ((not b && everyOf (λ c. not (test c)) l) ≡ true)
+    go true h = ((λ e. absurd (omega arith)), (λ e. absurd (false≢true e)))
+    go false h = ((λ e. h .0 (omega arith)), (λ e. (let f = h .1 e in omega arith)))
 
 pub tally-append : (taken : ℕ) (l m : List Cell) → tallied taken (l ++ m) ≡ tallySum (tallied taken l) (tallied taken m)
 unfolding tallied

@@ -4,5 +4,6 @@ pub mod CellLaws
 pub mod RangeLaws
 pub mod PaintLaws
 pub mod CountLaws
+pub mod ShareLaws
 pub mod BlockLaws
 pub mod DrawLaws

@@ -16,7 +16,7 @@
 --                  └──────────────────────────────────────► Marked
 use mathlib.Core.Bool.{Bool, true, false, not, cond}
 use mathlib.Core.List.{List, [], _∷_, map}
-use Prim.Native.Nat.{ℕ, _+_}
+use Prim.Native.Nat.{ℕ, _+_, _*_, _/_}
 use lib.Dec.{leb, ltb, eqb}
 use Rattle.image.specs.declared.Op.{Op}
 use Rattle.image.specs.declared.Op.the-variants as O
@@ -164,3 +164,7 @@ tallied taken l = record {
   uncertain = countOf (λ c. isUncertain (reading taken c)) l;
   givenup = countOf isGivenUp l;
 }
+
+-- document 02, (i): the share is 1000 times the settled pixels divided by all pixels, rounded down; of no pixels it is 0
+unfoldable pub shareOf : ℕ → ℕ → ℕ
+shareOf settled pixels = 1000 * settled / pixels

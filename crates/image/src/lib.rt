@@ -6,7 +6,7 @@ ghost use mathlib.Core.Path.{_≡_};
 ghost use Prim.Native.Nat.{_+_, _-_, _^_, _≤_, _<_, min};
 ghost use lib.Dec.{eqb};
 ghost use lib.ListN.{length};
-ghost use Rattle.image.specs.Cell.{meaningOf, meanings, nameable, reading, ofKind, characterOf};
+ghost use Rattle.image.specs.Cell.{meaningOf, meanings, nameable, reading, ofKind, characterOf, shareOf};
 ghost use Rattle.image.specs.Range.{firstPixel, rectangleOf, wholePicture, pictureReady};
 ghost use Rattle.image.specs.Painting.{paintable, paintedCells, someOf, someSeen, allTrueSeen, tallyAnswer, drawnBytes};
 
@@ -255,6 +255,16 @@ pub fn count(cells: &[u64], width: u32, height: u32, r: PixelRange, taken: u64) 
         return CellTallyAnswer::Of(tally);
     }
     CellTallyAnswer::Outside
+}
+
+// The settled pixels in thousandths of all, rounded down: 1000 says that every pixel is settled. Of no pixels it is 0.
+pub fn share_of(settled: u32, pixels: u32) -> u64
+    ensures { λ r. ⌜ r ≡ shareOf settled pixels ⌝ }
+{
+    if pixels == 0 {
+        return 0;
+    }
+    1000 * settled as u64 / pixels as u64
 }
 
 // Whether one of the cells is of a kind.

@@ -1,9 +1,9 @@
 -- Laws of the picture and the counts: the pixels' cells, the answers by the tests that lead there, byte by byte, and the sums. Assumes nothing.
 use mathlib.Core.Path.{_≡_, refl, sym, ap, _∙_}
+use mathlib.Core.Logic.{_↔_}
 use mathlib.Core.Bool.{Bool, true, false, not, cond}
 use mathlib.Core.List.{List, [], _∷_, _++_, map, map-map}
-use Prim.Native.Nat.{ℕ, zero, suc, _+_, _-_, _*_, _^_, _≤_, _<_}
-use native.Mathlib.Nat.{div-mul-le-self, lt-div-mul-add, div-lt-iff-lt-mul}
+use Prim.Native.Nat.{ℕ, zero, suc, _+_, _-_, _^_, _≤_, _<_}
 use native.Mathlib.Omega.{arith}
 use lib.Dec.{leb}
 use lib.ListN.{length, getD, take, drop, length-append, length-drop}
@@ -21,11 +21,12 @@ use Rattle.image.specs.declared.PixelRange.{PixelRange}
 use Rattle.image.specs.declared.CellTallyAnswer.{CellTallyAnswer}
 use Rattle.image.specs.declared.CellTallyAnswer.the-variants as A
 use Rattle.image.specs.Cell.{Cell, Named, Marked, GivenUp, Other, meaningOf, meanings, reading, byteOf, shownByte}
-use Rattle.image.specs.Cell.{isDamaged, isGivenUp, ofKind, countOf, isTrue, isFalse, isUncertain, tallied}
+use Rattle.image.specs.Cell.{isDamaged, isGivenUp, ofKind, countOf, isTrue, isFalse, isUncertain, tallied, shareOf}
 use Rattle.image.specs.Range.{cellIndex, wholePicture}
 use Rattle.image.specs.Painting.{pixelCell, someOf, tallyAnswer, drawnBytes}
 use Rattle.image.proofs.RangeLaws.{cell-below}
 use Rattle.image.proofs.CountLaws.{tally-answered}
+use Rattle.image.proofs.ShareLaws.{share-all}
 use Rattle.image.proofs.DrawLaws.{drawn-all}
 use Rattle.decide.specs.declared.Chosen.{Chosen}
 use Rattle.implicit.specs.declared.state.State.{State}
@@ -35,7 +36,7 @@ use Rattle.implicit.specs.declared.state.CountsAnswer.the-variants as C
 use Rattle.implicit.specs.declared.state.CallAnswer.{CallAnswer}
 use Rattle.implicit.specs.declared.state.CallAnswer.the-variants as D
 use Rattle.implicit.specs.Record.{pixelCount, pixelCells, soundRecord}
-use Rattle.implicit.specs.View.{cellsSound, pictureBytes, pictureLeft, shareOf, pictureAnswer, countsFrom, countsOf, countsAnswer}
+use Rattle.implicit.specs.View.{cellsSound, pictureBytes, pictureLeft, pictureAnswer, countsFrom, countsOf, countsAnswer}
 use Rattle.implicit.proofs.RecordLaws.{sound-chosen, pixels-some, pixels-most, pixel-cells, pixel-cells-length, pixel-cell-at, whole-ready}
 
 -- DAMAGED CELLS
@@ -246,14 +247,9 @@ same-tally a k t e f = cc
 pub never-outside : (a : CellTallyAnswer) (k : CellTally) {P : Type 0} → a ≡ A.Of k → a ≡ A.Outside → P
 never-outside a k e f = let z : _≡_ {A = ℕ} 0 1 = cc in absurd (omega arith)
 
-pub share-asks : (s : State) (pixels settled : ℕ) → soundRecord (s .len) s ≡ true → pixels ≡ pixelCount (s .chosen) → settled ≤ pixelCount (s .chosen)
-    → (1 ≤ pixels) × (pixels ≤ 2 ^ 30) × (settled ≤ pixels)
-share-asks s pixels settled h e k =
-    let p = sound-chosen (s .len) s h in
-    (omega (arith, pixels-some (s .chosen) p), omega (arith, pixels-most (s .chosen) p), omega arith)
-
-pub settled-fits : (s : State) (settled : ℕ) → soundRecord (s .len) s ≡ true → settled ≤ pixelCount (s .chosen) → settled < 2 ^ 64
-settled-fits s settled h k = omega (arith, pixels-most (s .chosen) (sound-chosen (s .len) s h))
+-- as many as the pixels, or fewer, fit 32 bits
+pub pixels-fit : (s : State) (n : ℕ) → soundRecord (s .len) s ≡ true → n ≤ pixelCount (s .chosen) → n < 2 ^ 32
+pixels-fit s n h k = omega (arith, pixels-most (s .chosen) (sound-chosen (s .len) s h))
 
 pub counts-from-as : (s : State) (t : CellTally) (pixels share : ℕ) → share ≡ shareOf (t .trues + t .falses) pixels → pixels ≡ pixelCount (s .chosen)
     → record { trues = t .trues; falses = t .falses; uncertain = t .uncertain; givenup = t .givenup; queued = s .queued - s .taken; share = share }
@@ -271,17 +267,29 @@ pub counts-given-up : (s : State) (cells : List ℕ) → countsOf s cells .given
 unfolding countsFrom
 counts-given-up s cells = given-up-uncertain (s .taken) (pixelCells (s .chosen) cells)
 
--- to the nearest thousandth, half up: the share less a half is at most 1000 * settled / pixels, which is under the share and a half
-pub share-nearest : (settled pixels : ℕ) → 1 ≤ pixels
-    → (shareOf settled pixels * (2 * pixels) ≤ 2000 * settled + pixels) × (2000 * settled + pixels < shareOf settled pixels * (2 * pixels) + 2 * pixels)
-unfolding shareOf
-share-nearest settled pixels h = (
-  div-mul-le-self (2000 * settled + pixels) (2 * pixels),
-  lt-div-mul-add {a = 2000 * settled + pixels} {b = 2 * pixels} (omega arith),
-)
+-- what is answered, of a record and cells as they must be
+pub counted-viewable : (s : State) (cells : List ℕ) (t : Tally) → countsAnswer s cells ≡ C.Of t
+    → Viewable s cells (pixelCount (s .chosen)) × (t ≡ countsOf s cells)
+counted-viewable s cells t e = go (pictureAnswer s cells n) refl
+  where
+    n : ℕ
+    n = pixelCount (s .chosen)
 
-pub share-most : (settled pixels : ℕ) → 1 ≤ pixels → settled ≤ pixels → shareOf settled pixels ≤ 1000
-unfolding shareOf
-share-most settled pixels h k =
-    let f : shareOf settled pixels < 1001 = div-lt-iff-lt-mul {k = 2 * pixels} {x = 2000 * settled + pixels} {y = 1001} (omega arith) .1 (omega arith) in
-    omega arith
+    go : (d : CallAnswer) → pictureAnswer s cells n ≡ d → Viewable s cells n × (t ≡ countsOf s cells)
+    go D.Done f = let g = sym e ∙ counts-done s cells n refl f in (drawn-viewable s cells n f, cc)
+    go (D.Refused why) f = let g = sym e ∙ counts-refused s cells n why refl f in let z : _≡_ {A = ℕ} 0 1 = cc in absurd (omega arith)
+
+-- the share is 1000 exactly if every pixel is settled, so exactly if none is uncertain
+pub counts-settled : (s : State) (cells : List ℕ) → soundRecord (s .len) s ≡ true → pixelCount (s .chosen) ≤ length cells
+    → (countsOf s cells .share ≡ 1000) ↔ (countsOf s cells .trues + countsOf s cells .falses ≡ pixelCount (s .chosen))
+unfolding countsFrom
+counts-settled s cells h k =
+    share-all (countsOf s cells .trues + countsOf s cells .falses) (pixelCount (s .chosen)) (pixels-some (s .chosen) (sound-chosen (s .len) s h))
+    (omega (arith, counts-add s cells k))
+
+pub share-certain : (s : State) (cells : List ℕ) → soundRecord (s .len) s ≡ true → pixelCount (s .chosen) ≤ length cells
+    → (countsOf s cells .share ≡ 1000) ↔ (countsOf s cells .uncertain ≡ 0)
+share-certain s cells h k =
+    let n = counts-add s cells k in
+    let all = counts-settled s cells h k in
+    ((λ e. omega (arith, n, all .0 e)), (λ e. all .1 (omega (arith, n, e))))

@@ -2,12 +2,12 @@
 -- 12 for the picture alone, 8 for a cell. Neither has a ring: the record's own ring length is taken as the lent one's.
 use mathlib.Core.Bool.{Bool, not}
 use mathlib.Core.List.{List, map, _++_}
-use Prim.Native.Nat.{ℕ, _+_, _-_, _*_, _/_}
+use Prim.Native.Nat.{ℕ, _+_, _-_}
 use lib.Dec.{leb}
 use lib.ListN.{length, drop}
 use Rattle.refusal.specs.declared.Refusal.the-variants as R
 use Rattle.image.specs.declared.CellTally.{CellTally}
-use Rattle.image.specs.Cell.{isDamaged, reading, byteOf, tallied}
+use Rattle.image.specs.Cell.{isDamaged, reading, byteOf, tallied, shareOf}
 use Rattle.image.specs.Painting.{someOf}
 use Rattle.implicit.specs.declared.state.State.{State}
 use Rattle.implicit.specs.declared.state.Tally.{Tally}
@@ -28,10 +28,6 @@ pictureBytes s cells = map (λ c. byteOf (reading (s .taken) c)) (pixelCells (s 
 -- the picture buffer afterwards: what lies beyond the pixels is as it was
 unfoldable pub pictureLeft : State → List ℕ → List ℕ → List ℕ
 pictureLeft s cells out = pictureBytes s cells ++ drop (pixelCount (s .chosen)) out
-
--- the share: settled pixels in thousandths of all, to the nearest, half up
-unfoldable pub shareOf : ℕ → ℕ → ℕ
-shareOf settled pixels = (2000 * settled + pixels) / (2 * pixels)
 
 -- what the picture answers, for a buffer of room bytes: the first refusal that applies, if any
 unfoldable pub pictureAnswer : State → List ℕ → ℕ → CallAnswer

@@ -2,10 +2,10 @@
 // Document 01, "Numbers of refusal" and "Program and values"; the Rust's `get_image` and `get_statistics`. The record is a copy, so nothing is handed back.
 ghost use mathlib.Core.Path.{_≡_};
 ghost use mathlib.Core.Bool.{true};
-ghost use Prim.Native.Nat.{_+_, _^_, _≤_};
+ghost use Prim.Native.Nat.{_+_, _≤_};
 ghost use lib.ListN.{length};
 ghost use Rattle.implicit.specs.Record.{pixelCount, soundRecord};
-ghost use Rattle.implicit.specs.View.{cellsSound, pictureLeft, shareOf, pictureAnswer, ifDone, countsFrom, countsOf, countsAnswer};
+ghost use Rattle.implicit.specs.View.{cellsSound, pictureLeft, pictureAnswer, ifDone, countsFrom, countsOf, countsAnswer};
 use crate::record::is_sound;
 use crate::record::pixel_count;
 use crate::state::CallAnswer;
@@ -95,21 +95,13 @@ fn with_share(s: State, t: CellTally) -> Tally
     requires { ⌜ (soundRecord (s .len) s ≡ true) × (t .trues + t .falses ≤ pixelCount (s .chosen)) ⌝ }
     ensures { λ r. ⌜ r ≡ countsFrom s t ⌝ }
 {
-    let pixels = pixel_count(s.chosen) as u64;
+    let settled = t.trues + t.falses;
     Tally {
         trues: t.trues,
         falses: t.falses,
         uncertain: t.uncertain,
         givenup: t.givenup,
         queued: s.queued - s.taken,
-        share: share_of(t.trues + t.falses, pixels),
+        share: image::share_of(settled as u32, pixel_count(s.chosen) as u32),
     }
-}
-
-// The settled pixels in thousandths, to the nearest one, half up.
-fn share_of(settled: u64, pixels: u64) -> u64
-    requires { ⌜ (1 ≤ pixels) × (pixels ≤ 2 ^ 30) × (settled ≤ pixels) ⌝ }
-    ensures { λ r. ⌜ r ≡ shareOf settled pixels ⌝ }
-{
-    (2000 * settled + pixels) / (2 * pixels)
 }

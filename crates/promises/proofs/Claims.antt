@@ -168,7 +168,7 @@ first-leaves s = refl
 -- ---- ".. once the finished steps reach the sum .. no queued block covers more than one pixel."
 
 -- there are no pixels but these two
-either : (P : Pixel (two .chosen) → Type 0) → P left → P right → (q : Pixel (two .chosen)) → P q
+pub either : (P : Pixel (two .chosen) → Type 0) → P left → P right → (q : Pixel (two .chosen)) → P q
 either P a b q = go (q .x) refl
   where
     y0 : q .y ≡ 0

@@ -20,6 +20,7 @@ pub mod Demand3
 pub mod RunSteps
 pub mod NeverDamaged
 pub mod Drawing
+pub mod Shares
 pub mod Places
 pub mod PlaneBounds
 pub mod FewSteps
@@ -48,6 +49,7 @@ pub mod Screen
 -- closed instances. Claims stands before the laws in the alphabet, so it is checked before them, and a sentence that became false is refused there first
 pub mod Claims
 pub mod ClaimsRoom
+pub mod ClaimsShare
 pub mod ExampleSteps
 pub mod ExampleRoom
 pub mod Example

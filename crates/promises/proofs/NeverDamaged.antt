@@ -1,29 +1,28 @@
 -- No call on a world of which the invariant holds is refused by 8; and which refusals are left to a step by its verdicts. Assumes nothing.
-use mathlib.Core.Path.{_≡_, refl, sym, ap, _∙_}
+use mathlib.Core.Path.{_≡_, refl, ap, _∙_}
 use mathlib.Core.Logic.{_⊎_, inl, inr}
-use mathlib.Core.Bool.{Bool, true, false, cond, not, _&&_, true≢false}
+use mathlib.Core.Bool.{Bool, true, false, cond, not, _&&_}
 use mathlib.Core.List.{List, [], _∷_}
-use Prim.Native.Nat.{ℕ, _+_, _-_, _*_, _/_, _%_, _^_, _≤_, _<_}
-use native.Mathlib.Decide.{decLt}
+use Prim.Native.Nat.{ℕ, _+_, _^_, _≤_, _<_}
 use native.Mathlib.Omega.{arith}
 use lib.Dec.{leb, ltb}
-use lib.ListN.{length, take, getD}
+use lib.ListN.{length, take}
+use lib.ListN as L
 use lib.Seq.{take-all}
 use borrow.Author.Tests.{le-leb, lt-ltb, le-ltb, eq-eqb, ne-eqb}
 use Rattle.refusal.specs.declared.Refusal.{Refusal}
 use Rattle.refusal.specs.declared.Refusal.the-variants as R
 use Rattle.refusal.specs.Number.{number}
-use Rattle.image.specs.Cell.{Named, meanings, isDamaged}
-use Rattle.image.specs.Range.{wholePicture}
+use Rattle.image.specs.Cell.{meaningOf, meanings, isDamaged}
 use Rattle.image.specs.Painting.{someOf}
-use Rattle.image.proofs.RangeLaws.{cell-pixel, beyond-not-held, whole-in-picture}
-use Rattle.image.proofs.CountLaws.{held-every}
+use Rattle.image.proofs.BlockLaws.{whole-every}
 use Rattle.queue.specs.declared.Block.{Block}
 use Rattle.queue.specs.Block.{remembered}
 use Rattle.decide.specs.declared.Chosen.{Chosen}
 use Rattle.decide.specs.Children.{childrenOf}
 use Rattle.implicit.specs.declared.state.State.{State}
 use Rattle.implicit.specs.declared.state.CallAnswer.the-variants as CallAnswer
+use Rattle.implicit.specs.declared.state.CountsAnswer.the-variants as CountsAnswer
 use Rattle.implicit.specs.declared.state.Ending.{Ending}
 use Rattle.implicit.specs.declared.state.Ending.the-variants as E
 use Rattle.implicit.specs.Record.{refusedUnless, pixelCount, pixelCells, soundRecord}
@@ -31,7 +30,7 @@ use Rattle.implicit.specs.Listing.{listedBlock, childrenListed}
 use Rattle.implicit.specs.Step.{World, StepEnd, finished, unless, newBlocks, newBytes, judged, stepWith, stepOf, stepAnswer}
 use Rattle.implicit.specs.Run.{RunEnd, RunResult, notRun, hasRun, runOf, runAnswer}
 use Rattle.implicit.specs.Move.{movedWorld, notMoved, moved, moveOf}
-use Rattle.implicit.specs.View.{pictureAnswer, countsAnswer}
+use Rattle.implicit.specs.View.{pictureAnswer, countsOf, countsAnswer}
 use Rattle.implicit.specs.Answers.{stepNumber, stopNumber, runNumber, runStop, childrenNumber, callNumber, countsNumber}
 use Rattle.implicit.proofs.RecordLaws.{sound-record}
 use Rattle.implicit.proofs.StepLawsWent.{goes}
@@ -119,19 +118,10 @@ suffices-goes w (c ∷ rest) k vs r s =
 pixels-fine : (p : Chosen) (cells : List ℕ) → pixelCount p ≤ length cells → PixelsWhole p (meanings cells) → someOf isDamaged (pixelCells p cells) ≡ false
 pixels-fine p cells h k =
     not-damaged isDamaged (pixelCells p cells)
-    (held-every (λ c. not (isDamaged c)) (p .width) (wholePicture (p .width) (p .height)) (meanings cells) (Named 0)
-    (λ i l t. elim (decLt i (p .width * p .height)) [
-      | yes m ↦ pixel i m
-      | no m ↦ absurd (true≢false (sym t ∙ beyond-not-held (p .width) (p .height) (wholePicture (p .width) (p .height)) i (whole-in-picture (p .width) (p .height)) (omega arith)))
-    ]))
-  where
-    pixel : (i : ℕ) → i < p .width * p .height → not (isDamaged (getD (meanings cells) i (Named 0))) ≡ true
-    pixel i m =
-        let z = cell-pixel (p .width) (p .height) i m in
-        ap (λ (n : ℕ). not (isDamaged (getD (meanings cells) n (Named 0)))) (sym (z .2)) ∙ ap not (k (i % p .width) (p .height - 1 - i / p .width) (z .0) (z .1))
+    (whole-every (p .width) (p .height) (meanings cells) (rw (L.length-map cells meaningOf) h) (λ c. not (isDamaged c)) .1 (λ x y i j. ap not (k x y i j)))
 
 module _ (w : World) (q : List Block) (k : Keeps w q) where
-  own-ring : soundRecord (w .state .len) (w .state) ≡ true
+  pub own-ring : soundRecord (w .state .len) (w .state) ≡ true
   own-ring = ap (λ (n : ℕ). soundRecord n (w .state)) (sound-record (length (w .ring)) (w .state) (k .sound-record) .ring) ∙ k .sound-record
 
   enough-test : leb (pixelCount (w .state .chosen)) (length (w .cells)) ≡ true
@@ -151,9 +141,13 @@ module _ (w : World) (q : List Block) (k : Keeps w q) where
       go true f = omega arith
       go false f = omega arith
 
-  counts-not-eight : ¬ (countsNumber (countsAnswer (w .state) (w .cells)) ≡ 8)
+  -- the pixels are counted
+  pub counts-answered : countsAnswer (w .state) (w .cells) ≡ CountsAnswer.Of (countsOf (w .state) (w .cells))
   unfolding countsAnswer
-  counts-not-eight e = let f = rw (own-ring, enough-test, pixels-fine (w .state .chosen) (w .cells) (k .enough) (k .whole)) at e in omega (arith, f)
+  counts-answered = rw (own-ring, enough-test, pixels-fine (w .state .chosen) (w .cells) (k .enough) (k .whole))
+
+  counts-not-eight : ¬ (countsNumber (countsAnswer (w .state) (w .cells)) ≡ 8)
+  counts-not-eight e = let f = rw counts-answered at e in omega (arith, f)
 
   run-not-eight : (budget : ℕ) (tape : List ℕ) → ¬ (runNumber (runAnswer (w .state) (runOf budget w tape)) ≡ 8)
   unfolding runOf

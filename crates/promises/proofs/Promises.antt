@@ -1,11 +1,11 @@
 -- WHAT IS PROMISED of the engine. Each promise stands under its sentence; each proof is one line that names the law. To judge the promises one reads this
--- page, document 01 and these definitions: specs/ of this crate (Chart, Steps, Calls, Judgements, Mixes, Sentences, EnoughRoom, Alike); specs/ of
+-- page, documents 01 and 02 and these definitions: specs/ of this crate (Chart, Steps, Calls, Judgements, Mixes, Sentences, EnoughRoom, Alike); specs/ of
 -- `implicit` and of the crates under it, which its contracts cite; and of `theory` specs/ Demand3, Levels, Shapes, Colours, Positions and Cuts, as far
 -- as these name it. No proof file.
 --
--- The conditions, for all but the runs: a setup was called with `a`, was accepted, and left the world w₀ (BegunAs); each step was finished on the record,
--- ring and cells that the setup, the step or the move before it left, so nobody else wrote there (Steps). Moves stand anywhere among the steps (MovesTo): the
--- queue may have gone to another ring. A queued block is one that the ring's bytes decode to.
+-- The conditions, for all but the runs and `share-says`: a setup was called with `a`, was accepted, and left the world w₀ (BegunAs); each step was finished on
+-- the record, ring and cells that the setup, the step or the move before it left, so nobody else wrote there (Steps). Moves stand anywhere among the steps
+-- (MovesTo): the queue may have gone to another ring. A queued block is one that the ring's bytes decode to.
 -- Assumes nothing.
 use mathlib.Core.Path.{_≡_, refl}
 use mathlib.Core.Logic.{_⊎_, _↔_}
@@ -36,11 +36,13 @@ use Rattle.implicit.specs.declared.state.RunAnswer.the-variants as RunAnswer
 use Rattle.implicit.specs.declared.state.MoveAnswer.{MoveAnswer}
 use Rattle.implicit.specs.declared.state.MoveAnswer.the-variants as MoveAnswer
 use Rattle.implicit.specs.declared.state.CallAnswer.{CallAnswer}
+use Rattle.implicit.specs.declared.state.Tally.{Tally}
+use Rattle.implicit.specs.declared.state.CountsAnswer.the-variants as CountsAnswer
 use Rattle.implicit.specs.Record.{pixelCount}
 use Rattle.implicit.specs.Setup.{startLevel, cleared, setupAnswer, ringBegun, cellsBegun}
 use Rattle.implicit.specs.Step.{World, worldOf, finished, stepOf, stepAnswer, EndsAs}
 use Rattle.implicit.specs.Run.{RunEnd, hasRun, runOf, RunsAs}
-use Rattle.implicit.specs.View.{pictureLeft, pictureAnswer, ifDone}
+use Rattle.implicit.specs.View.{pictureLeft, pictureAnswer, ifDone, countsAnswer}
 use Rattle.refusal.specs.Number.{number}
 use Rattle.queue.specs.Ring.{content}
 use Rattle.queue.specs.Queue.{queueCodes}
@@ -54,7 +56,7 @@ use Rattle.promises.specs.Steps.{PlaneOnly, LegalVerdicts, WrongCount, S
 use Rattle.promises.specs.Calls.{askedBy, ranTo}
 use Rattle.promises.specs.Judgements.{EveryAnswer}
 use Rattle.promises.specs.Mixes.{Measures, Mix, questionOf}
-use Rattle.promises.specs.Sentences.{FalseRule, FalseStays, LeavesAfter, PixelBound, WhiteMeansNo}
+use Rattle.promises.specs.Sentences.{FalseRule, FalseStays, LeavesAfter, PixelBound, ShareWhole, WhiteMeansNo}
 use Rattle.promises.specs.EnoughRoom.{NeverSix, RunsPastSix}
 use Rattle.promises.specs.Alike.{onRing, RingsAlike, StepsAlike}
 use Rattle.promises.proofs.Linked.{begun-reached, steps-reached, reached-by}
@@ -62,6 +64,7 @@ use Rattle.promises.proofs.Demand3.{false-exactly, false-kept, left-beh
 use Rattle.promises.proofs.PlaneBounds.{pixels-bound, levels-fall, levels-bound, empties}
 use Rattle.promises.proofs.NeverDamaged.{never-eight, wrong-only, illegal-only, right-only, goes-on}
 use Rattle.promises.proofs.Drawing.{drawn}
+use Rattle.promises.proofs.Shares.{settled-all, whole-share}
 use Rattle.promises.proofs.TrueKept.{true-kept, from-uncertain}
 use Rattle.promises.proofs.ColoursHold.{white-none, true-one, all-decided}
 use Rattle.promises.proofs.EnoughRing.{six-never, six-stops-none, ring-answered, begun-ring-stays}
@@ -254,6 +257,11 @@ module _ (a : Asked) {w₀ : World} (z : BegunAs a w₀) where
       × (getD (pictureLeft (w .state) (w .cells) out) (cellIndex (a .chosen .width) (a .chosen .height) (q .x) (q .y)) 0 ≡ byteOf (readsIn (a .chosen) w q))
   picture-shows {w = w} r = drawn (a .chosen) w (steps-reached (a .chosen) (begun-reached a w₀ z) r)
 
+  -- ".. so 1000 appears exactly when every pixel is settled" (document 02, (i)): the counts are answered, and their share is 1000 exactly if no pixel reads
+  -- Uncertain. A pixel that is given up reads so: a finished chart with one does not show 1000
+  pub share-whole : ShareWhole a w₀
+  share-whole = whole-share a z
+
   -- ---- LEVELS, with x or y and no parameter; a level stands as its rank, 48 more than document 01's k
 
   -- "levels never rise from the front of the queue to its back and that at most two neighbouring levels are queued at once"
@@ -291,6 +299,12 @@ module _ (a : Asked) {w₀ : World} (z : BegunAs a w₀) where
       → (sumTo (startLevel (a .chosen)) (λ i. placesAlong (a .chosen .width) (suc i) * placesAlong (a .chosen .height) (suc i)) ≤ n) ⊎ (queuedBlocks w ≡ [])
       → (queuedBlocks w ≡ []) × ((q : Pixel (a .chosen)) → ¬ (readsIn (a .chosen) w q ≡ Reads.Uncertain))
   decided-in-time = decided-then a z
+
+-- ---- THE SHARE, whatever record and cells the counts were asked of: where they are answered, it is 1000 exactly if the pixels that read True and those that
+-- read False are all of them
+pub share-says : (s : State) (cells : List ℕ) (t : Tally) → countsAnswer s cells ≡ CountsAnswer.Of t
+    → (t .share ≡ 1000) ↔ (t .trues + t .falses ≡ pixelCount (s .chosen))
+share-says = settled-all
 
 -- ---- RUNS: all of this reaches them, because a run's steps are steps
 

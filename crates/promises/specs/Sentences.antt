@@ -1,5 +1,6 @@
--- DEMAND 3, a statement for each of its sentences, and one about the colours: of a setup that was called with `a` and left the world w₀, and of the finished
--- steps after it, with moves among them. proofs/Promises proves them of every accepted setup; proofs/Claims computes what they say of small charts.
+-- DEMAND 3, a statement for each of its sentences, one about the share, and one about the colours: of a setup that was called with `a` and left the world
+-- w₀, and of the finished steps after it, with moves among them. proofs/Promises proves them of every accepted setup; proofs/Claims and ClaimsShare compute
+-- what they say of small charts.
 use mathlib.Core.Path.{_≡_}
 use mathlib.Core.Logic.{_↔_}
 use mathlib.Core.List.{_++_}
@@ -10,8 +11,11 @@ use Rattle.image.specs.declared.Reading.the-variants as Reads
 use Rattle.theory.specs.Demand3.{CoversAtMostOne}
 use Rattle.theory.specs.Levels.{sumTo, placesAlong}
 use Rattle.theory.specs.Colours.{HasSolution, FalseRight}
+use Rattle.implicit.specs.declared.state.Tally.{Tally}
+use Rattle.implicit.specs.declared.state.CountsAnswer.the-variants as CountsAnswer
 use Rattle.implicit.specs.Setup.{startLevel}
 use Rattle.implicit.specs.Step.{World}
+use Rattle.implicit.specs.View.{countsAnswer}
 use Rattle.promises.specs.Chart.{Pixel, coversIn, queuedBlocks}
 use Rattle.promises.specs.Steps.{Asked, Steps, readsIn, NoneQueuedCovers, GivenUpIn, queuedSince, PlaneOnly}
 use Rattle.promises.specs.Judgements.{EveryAnswer}
@@ -45,6 +49,14 @@ module _ (a : Asked) (w₀ : World) where
       PlaneOnly (a .chosen) → (n : ℕ) (w : World) → Steps n w₀ w
       → sumTo (startLevel (a .chosen)) (λ i. placesAlong (a .chosen .width) (suc i) * placesAlong (a .chosen .height) (suc i)) ≤ n
       → Every (CoversAtMostOne (coversIn (a .chosen))) (queuedBlocks w)
+
+  -- Document 02, (i): ".. so 1000 appears exactly when every pixel is settled." The counts are answered, and their share is 1000 exactly if no pixel reads
+  -- Uncertain
+  abbrev pub ShareWhole : Type 0
+  ShareWhole =
+      (n : ℕ) (w : World) → Steps n w₀ w
+      → (t : Tally) × (countsAnswer (w .state) (w .cells) ≡ CountsAnswer.Of t)
+      × ((t .share ≡ 1000) ↔ ((q : Pixel (a .chosen)) → ¬ (readsIn (a .chosen) w q ≡ Reads.Uncertain)))
 
 module _ (M : Measures) (Solves : Mix M → Type 0) (a : Asked) (w₀ : World) where
   -- if every `false` verdict was right, a pixel that reads False holds no solution

@@ -159,6 +159,12 @@ fn ask_bounds(x: Interval, integer: bool) {
     say_point(interval::simple_fraction(x));
 }
 
+fn ask_share(q: &[u8; 25]) {
+    let settled = (number_at(q, 1) / 4294967296) as u32;
+    let pixels = (number_at(q, 5) / 4294967296) as u32;
+    say(image::share_of(settled, pixels));
+}
+
 fn say_point(answer: PointAnswer) {
     match answer {
         PointAnswer::At(x) => say(interval::bits_of(x)),
@@ -207,6 +213,7 @@ fn ask(q: &[u8; 25]) {
         2 => ask_read(q),
         3 => ask_coordinate(q),
         4 => ask_interval(q),
+        5 => ask_share(q),
         _ => (),
     }
     io::write_all(1, b"\n");

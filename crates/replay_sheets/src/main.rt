@@ -1,7 +1,7 @@
 // Plays sheets through the program's work, from file to file, and prints what the files then hold, each behind its sheet's number and its own
 // length; the file stdout has what must come. Nothing is counted or compared here. By the length a text that went elsewhere is missed.
 // data/sheets has how many there are in two bytes, the higher first, then for each its length in two and its bytes. make.py, beside this
-// crate's folders, works out by itself what they print, from document 01.
+// crate's folders, works out by itself what they print, from documents 01 and 02.
 ghost use mathlib.Core.Path.{_≡_};
 ghost use Prim.Native.Nat.{_+_, _*_, _≤_, _<_};
 ghost use lib.ListN.{length};

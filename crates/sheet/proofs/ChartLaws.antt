@@ -29,9 +29,9 @@ use Rattle.implicit.specs.Record.{pixelCount, pixelCells}
 use Rattle.implicit.specs.Setup.{cleared, setupAnswer, ringBegun, cellsBegun}
 use Rattle.implicit.specs.Step.{World, worldOf}
 use Rattle.implicit.specs.Run.{RunResult, notRun, hasRun, runOf, RunsAs}
-use Rattle.implicit.specs.View.{pictureBytes, pictureLeft, pictureAnswer, ifDone, countsOf, countsAnswer}
+use Rattle.implicit.specs.View.{pictureBytes, pictureLeft, pictureAnswer, ifDone, countsAnswer}
 use Rattle.implicit.proofs.RecordLaws.{sound-chosen}
-use Rattle.implicit.proofs.ViewLaws.{Viewable, viewable-drawn, drawn-viewable, countedIf, counts-as-picture, picture-length}
+use Rattle.implicit.proofs.ViewLaws.{Viewable, viewable-drawn, picture-length, counted-viewable}
 use Rattle.sheet.specs.declared.head.Order.{Order}
 use Rattle.sheet.specs.Layout.{orderIn, takenSheet}
 use Rattle.sheet.specs.Text.{rowsOf, characters, refusedText}
@@ -64,25 +64,21 @@ rows-shown s cells rest h =
 
 -- A CHART THAT IS COUNTED
 
-drawn-if : (d : CallAnswer) (m n : Tally) → countedIf d m ≡ C.Of n → d ≡ D.Done
-drawn-if D.Done m n e = refl
-drawn-if (D.Refused why) m n e = let z : _≡_ {A = ℕ} 0 1 = cc in absurd (omega arith)
-
 module _ (s : State) (cells : List ℕ) (n : Tally) (counted : countsAnswer s cells ≡ C.Of n) where
   -- it can be drawn
-  pub counted-viewable : Viewable s cells (pixelCount (s .chosen))
-  counted-viewable = drawn-viewable s cells (pixelCount (s .chosen)) (drawn-if (pictureAnswer s cells (pixelCount (s .chosen))) (countsOf s cells) n (counts-as-picture s cells (pixelCount (s .chosen)) refl ∙ counted))
+  viewable : Viewable s cells (pixelCount (s .chosen))
+  viewable = counted-viewable s cells n counted .0
 
   pub counted-drawn : (room : ℕ) → length cells ≤ room → pictureAnswer s cells room ≡ D.Done
   counted-drawn room h =
-      let v = counted-viewable in
+      let v = viewable in
       viewable-drawn s cells room (record { record-sound = v .record-sound; enough = v .enough; room-left = omega (arith, v .enough); cells-fine = v .cells-fine })
 
   wide-enough : 1 ≤ s .chosen .width
   unfolding legalChosen
   wide-enough =
       let p = s .chosen in
-      let e = sound-chosen (s .len) s (counted-viewable .record-sound) in
+      let e = sound-chosen (s .len) s (viewable .record-sound) in
       let w = legalSide (p .width) in
       leb-true 1 (p .width) (and-left _ _ (and-left w (legalSide (p .height)) (and-left (w && legalSide (p .height)) (legalSet (p .set)) e)))
 
@@ -91,7 +87,7 @@ module _ (s : State) (cells : List ℕ) (n : Tally) (counted : countsAnswer s ce
   counted-room h =
       let w = s .chosen .width in
       let y = s .chosen .height in
-      let a : w * y ≤ 4096 = omega (arith, counted-viewable .enough) in
+      let a : w * y ≤ 4096 = omega (arith, viewable .enough) in
       let b : 1 * y ≤ w * y = mul-le-mul-right y wide-enough in
       (a, omega (arith, a, b))
 
@@ -103,7 +99,7 @@ module _ (s : State) (cells : List ℕ) (n : Tally) (counted : countsAnswer s ce
   counted-shown out left d h e f =
       let g : d ≡ D.Done = e ∙ counted-drawn (length out) h in
       let k : left ≡ pictureBytes s cells ++ drop (pixelCount (s .chosen)) out = f ∙ ap (λ (x : CallAnswer). ifDone x (pictureBytes s cells ++ drop (pixelCount (s .chosen)) out) out) g in
-      rw k (rows-shown s cells (drop (pixelCount (s .chosen)) out) (counted-viewable .enough))
+      rw k (rows-shown s cells (drop (pixelCount (s .chosen)) out) (viewable .enough))
 
 -- WHAT EACH ANSWER PRINTS
 

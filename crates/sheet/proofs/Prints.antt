@@ -1,8 +1,9 @@
 -- What a sheet prints, once it is taken: `refused 1`, `refused 3`, or the chart of its run. Neither does setup find the cells or the ring short, nor are the run
 -- and its counts refused. FOR READERS, at the end: `Prints` and
--- `taken-prints`, and of a chart's characters `character-shows` and `dot-means-no`. Assumes nothing.
+-- `taken-prints`, of a chart's characters `character-shows` and `dot-means-no`, and of its share `share-printed`. Assumes nothing.
 use mathlib.Core.Path.{_≡_, refl, sym, ap, _∙_}
-use mathlib.Core.Bool.{Bool, true, false, cond, not, _&&_, true≢false}
+use mathlib.Core.Logic.{_↔_}
+use mathlib.Core.Bool.{true, false, not, _&&_}
 use mathlib.Core.List.{List, [], _∷_, _++_, map}
 use Prim.Native.Nat.{ℕ, _+_, _-_, _*_, _≤_, _<_}
 use native.Mathlib.Omega.{arith}
@@ -43,12 +44,12 @@ use Rattle.implicit.specs.declared.state.SetupAnswer.the-variants as S
 use Rattle.implicit.specs.declared.state.State.{State}
 use Rattle.implicit.specs.declared.state.Tally.{Tally}
 use Rattle.implicit.specs.declared.state.CountsAnswer.the-variants as C
-use Rattle.implicit.specs.Record.{pixelCount, pixelCells, soundRecord}
+use Rattle.implicit.specs.Record.{pixelCount, pixelCells}
 use Rattle.implicit.specs.Setup.{cleared, rangesLegal, firstBlocks, firstBytes, setupRefusal, startRecord, setupAnswer, ringBegun, cellsBegun}
 use Rattle.implicit.specs.Step.{World, worldOf}
 use Rattle.implicit.specs.Run.{RunEnd, hasRun, runFrom, runOf}
-use Rattle.implicit.specs.View.{cellsSound, countsOf, countsAnswer}
-use Rattle.implicit.specs.Answers.{setupNumber, setupState, countsNumber}
+use Rattle.implicit.specs.View.{countsOf, countsAnswer}
+use Rattle.implicit.specs.Answers.{setupNumber, setupState}
 use Rattle.implicit.proofs.RecordLaws.{pixel-cells-length, pixel-cell-at}
 use Rattle.implicit.proofs.SetupLawsBlocks.{RangesHeld, FirstBlock, first-blocks, first-count, first-can}
 use Rattle.theory.specs.Colours.{HasSolution, FalseRight}
@@ -57,7 +58,8 @@ use Rattle.promises.specs.Steps.{Asked, BegunAs, readsIn}
 use Rattle.promises.specs.Judgements.{EveryAnswer}
 use Rattle.promises.specs.Mixes.{Measures, Mix, questionOf}
 use Rattle.promises.proofs.Linked.{begun-reached, steps-reached}
-use Rattle.promises.proofs.Promises.{never-damaged, run-reaches, white-means-no}
+use Rattle.promises.proofs.NeverDamaged.{counts-answered}
+use Rattle.promises.proofs.Promises.{run-reaches, share-whole, white-means-no}
 use Rattle.sheet.specs.Layout.{numberIn, sheetSet, zeroBits, placesIn, boundsIn, rangeIn, rangesIn, orderIn, tooLarge, takenSheet}
 use Rattle.sheet.specs.Text.{runLine, countLine, rowsOf, characters, chartText, refusedText}
 use Rattle.sheet.specs.Printed.{freshRing, freshCells, ranText, startedText, orderText, textOf}
@@ -121,22 +123,9 @@ module _ (a : Asked) {w : World} (z : BegunAs a w) (budget : ℕ) (tape : List �
 
   counts-known : (e : RunEnd) → runOf budget w tape ≡ hasRun e
       → countsAnswer (e .world .state) (e .world .cells) ≡ C.Of (countsOf (e .world .state) (e .world .cells))
-  unfolding countsAnswer
   counts-known e h =
-      let r = run-reaches budget w tape e h .0 in
-      let s = e .world .state in
-      let cells = e .world .cells in
-      let enough = steps-reached (a .chosen) (begun-reached a w z) r .keeps .enough in
-      go (soundRecord (s .len) s) (leb (pixelCount (s .chosen)) (length cells)) (cellsSound s cells) (countsOf s cells)
-      (le-leb (pixelCount (s .chosen)) (length cells) enough) (never-damaged a z r .counts)
-    where
-      go : (t u v : Bool) (n : Tally) → u ≡ true
-          → (let c = cond t (cond u (cond v (C.Of n) (C.Refused R.Damaged)) (C.Refused R.Cells)) (C.Refused R.Damaged) in
-          ¬ (countsNumber c ≡ 8) → c ≡ C.Of n)
-      go true true true n f k = refl
-      go true true false n f k = absurd (k refl)
-      go t false v n f k = absurd (true≢false (sym f))
-      go false true v n f k = absurd (k refl)
+      let k = steps-reached (a .chosen) (begun-reached a w z) (run-reaches budget w tape e h .0) in
+      counts-answered (e .world) (k .blocks) (k .keeps)
 
 -- WHAT IS PRINTED
 
@@ -226,6 +215,14 @@ character-at p s cells e enough x y a b =
         ∙ map-at f (pixelCells c cells) i (Named 0) (omega (arith, n, k))
         ∙ ap f (pixel-cell-at c cells x y a b)
 
+question-uncertain : (r : Reading) → characterOf r ≡ 63 → r ≡ Reads.Uncertain
+question-uncertain Reads.False e = absurd (omega (arith, e))
+question-uncertain Reads.Uncertain e = refl
+question-uncertain Reads.True e = absurd (omega (arith, e))
+
+same-counts : {t n : Tally} → C.Of t ≡ C.Of n → t ≡ n
+same-counts e = cc
+
 module _ (a : Asked) {w : World} (z : BegunAs a w) (budget : ℕ) (tape : List ℕ) (e : RunEnd) (h : runOf budget w tape ≡ hasRun e) where
   -- it is the pixel's reading: # for True, . for False, ? for Uncertain; y counts from the bottom
   pub character-shows : (q : Pixel (a .chosen))
@@ -239,6 +236,17 @@ module _ (a : Asked) {w : World} (z : BegunAs a w) (budget : ℕ) (tape : List �
       let k = steps-reached (a .chosen) (begun-reached a w z) (run-reaches budget w tape e h .0) in
       getD-append-add lines rows ((a .chosen .height - 1 - q .y) * (s .chosen .width + 1) + q .x) 0
       ∙ character-at (a .chosen) s cells (k .chosen) (k .keeps .enough) (q .x) (q .y) (q .x-in) (q .y-in)
+
+  -- the share that the second line ends with, by `chartText` and `countLine`, is 1000 exactly if no pixel's character is ?
+  pub share-printed : (countsOf (e .world .state) (e .world .cells) .share ≡ 1000)
+      ↔ ((q : Pixel (a .chosen)) → ¬ (getD (chartAt e) (placeIn e (a .chosen .height - 1 - q .y) (q .x)) 0 ≡ 63))
+  share-printed =
+      let (t, answered, whole) = share-whole a z (e .steps) (e .world) (run-reaches budget w tape e h .0) in
+      let counted = sym answered ∙ counts-known a z budget tape e h in
+      let same : t .share ≡ countsOf (e .world .state) (e .world .cells) .share = ap (λ (n : Tally). n .share) (same-counts counted) in (
+        (λ f q g. whole .0 (same ∙ f) q (question-uncertain (readsIn (a .chosen) (e .world) q) (sym (character-shows q) ∙ g))),
+        (λ f. sym same ∙ whole .1 (λ q g. f q (character-shows q ∙ ap characterOf g))),
+      )
 
 dot-false : (r : Reading) → characterOf r ≡ 46 → r ≡ Reads.False
 dot-false Reads.False e = refl
