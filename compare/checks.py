@@ -8,6 +8,8 @@ from importlib.machinery import SourceFileLoader
 from importlib.util import module_from_spec, spec_from_loader
 from pathlib import Path
 
+import rounding
+
 HERE = Path(__file__).resolve().parent
 
 
@@ -49,6 +51,15 @@ class Checks:
         print(f"slip {name}: {'noticed: ' + told[0] if good else 'NOT NOTICED ' + done.stderr}", flush=True)
         self.count(good)
 
+    def rounding(self, driver, seed, count, file):
+        """The stand-in's interval arithmetic against fractions."""
+        self.run(driver, "rounding", seed, count, file)
+        asked, found = rounding.differences(file)
+        for line in found[:5]:
+            print("DIFFERENCE", line)
+        print(f"rounding: {asked} operations held against fractions, {len(found)} differences", flush=True)
+        self.count(asked == count and not found)
+
     def close(self):
         print(f"{time.time() - self.start:.0f} s")
         print(f"{self.passed} checks passed, {self.failed} failed")
@@ -56,7 +67,7 @@ class Checks:
 
 
 def series(checks, driver, given):
-    """The comparison of the driver's two engines, small cases first."""
+    """The comparison of the driver's two engines, small cases first, and of their boxes."""
     print(f"seed {given.seed}", flush=True)
     checks.run(driver, "worked")
     if given.vectors:
@@ -70,6 +81,8 @@ def series(checks, driver, given):
     checks.run(driver, "odd", given.seed, 20_000 * given.times, 20)
     checks.run(driver, "long", given.seed, 24 * given.times, 4000)
     checks.run(driver, "damaged", given.seed, 50_000 * given.times)
+    checks.rounding(driver, given.seed, 30_000, Path(driver).parent / "rounding.txt")
+    checks.run(driver, "boxes", given.seed, 4_000 * given.times)
 
 
 def arguments(doc):

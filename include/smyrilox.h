@@ -10,6 +10,7 @@
  *                                or run, which takes the verdicts from a tape
  *     picture, counts            what is known so far
  *     move_queue                 a step that finds no room is refused, and goes on in a longer ring
+ *     block_box                  where a child's square lies in the caller's own units: what an evaluator judges
  *
  * What a caller owes. No function can test these, and a call without the first five has no meaning at all:
  *     pointers     none is NULL, also where its count is 0; one to cells is aligned as a uint64_t is; a bool is 0 or 1
@@ -44,17 +45,19 @@ enum {
     SMYRILOX_OK = 0,
     SMYRILOX_SIDE = 1,       /* a side must be 1 to 32768 pixels */
     SMYRILOX_CELLS = 2,      /* too few cells: one a pixel is needed, and spare ones stay as they are */
-    SMYRILOX_PARAMETER = 3,  /* the set has a bit that is no variable's, or an interval is not legal */
+    SMYRILOX_PARAMETER = 3,  /* the set has a bit that is no variable's, or an interval (a plot's edge too) is not legal */
     SMYRILOX_VERDICTS = 4,   /* not one verdict for each child; a run's tape ends before them */
     SMYRILOX_VERDICT = 5,    /* a verdict that a child of its level cannot have, looked at or not */
     SMYRILOX_ROOM = 6,       /* the ring has no room for the new blocks */
     SMYRILOX_NUMBERS = 7,    /* the 2^32 numbers of blocks are used up */
-    SMYRILOX_DAMAGED = 8,    /* damaged: the record, the front block, a cell, or a coordinate asked about alone */
+    SMYRILOX_DAMAGED = 8,    /* damaged: the record, the front block, a cell; or a coordinate, or a block outside the plot, asked about alone */
     SMYRILOX_TOO_LARGE = 9,  /* only numbers below 2^56 have a code */
     SMYRILOX_ENDS_EARLY = 10,/* the bytes end before the code does */
     SMYRILOX_HEAD_ZERO = 11, /* no code begins with 0 */
     SMYRILOX_PICTURE = 12,   /* too few bytes for the picture */
-    SMYRILOX_EMPTY = 13      /* nothing is queued: no step, and no children to list */
+    SMYRILOX_EMPTY = 13,     /* nothing is queued: no step, and no children to list */
+    SMYRILOX_BOUNDS = 15,    /* a bound of the box is not finite, or ends of it cross */
+    SMYRILOX_PADDING = 16    /* the padding leaves no width or no height */
 };
 
 /* The bits of a variable set: which of the variables a relation uses. */
@@ -257,6 +260,48 @@ typedef struct {
     smyrilox_coordinate high;
 } smyrilox_halved;
 
+/* The kinds of map from pixels to units: quick by slope and offset, precise from the left or the lower edge by the part of the way. Both
+ * enclose; docs/EVALUATOR.md says which is the closer one where. As a byte, any other value than 0 is read as precise. */
+enum {
+    SMYRILOX_QUICK = 0,
+    SMYRILOX_PRECISE = 1
+};
+
+/* Pixels at the rim of a picture, outside of its edges. */
+typedef struct {
+    uint32_t left;
+    uint32_t right;
+    uint32_t bottom;
+    uint32_t top;
+} smyrilox_padding;
+
+/* Four intervals, in units: somewhere in each stands the edge of that name, of a picture or of a block. */
+typedef struct {
+    smyrilox_interval left;
+    smyrilox_interval right;
+    smyrilox_interval bottom;
+    smyrilox_interval top;
+} smyrilox_edges;
+
+/* A plot: a picture, and where it lies in the caller's units (arrivals, crew). Pixel padding.left stands at the left edge and pixel
+ * width - padding.right at the right one, padding.bottom at the lower edge and height - padding.top at the upper one, and the pixels
+ * between share the way evenly; those of the padding go on outside. An edge that is no double, as 1/10, is given by two around it
+ * (0.1 is another number). */
+typedef struct {
+    uint32_t width;
+    uint32_t height;
+    smyrilox_padding padding;
+    smyrilox_edges edges;
+} smyrilox_plot;
+
+/* A block's box. */
+typedef struct {
+    uint64_t refusal;
+    smyrilox_edges edges;
+    smyrilox_interval x;
+    smyrilox_interval y;
+} smyrilox_boxed;
+
 /* THE ENGINE */
 
 /* How many cells a picture of these sides takes: one a pixel.
@@ -357,6 +402,31 @@ smyrilox_halved smyrilox_halves(smyrilox_coordinate c);
  * level outside the ranges; then the value is 0. */
 smyrilox_number smyrilox_is_halvable(smyrilox_coordinate c);
 
+/* THE BOXES: a block's square in the caller's units. None writes anything. */
+
+/* The box of the block with these two coordinates. `edges` has four intervals: wherever in their own intervals the plot's edges stand, the
+ * exact place of the block's left, right, lower and upper edge lies in the interval of that name. A block that reaches over the picture's
+ * right or upper edge is clipped to it. If the plot's left edge is not right of its right one, and its lower one not above its upper one,
+ * every point of the block lies in the OUTER box, smyrilox_outer_x by smyrilox_outer_y: judge that one, so that a no for all of it is a no
+ * for the block.
+ * `x` and `y` are what graphest hands to its evaluator. Above level 0 they are the outer box. From level 0 down an end on a pixel's edge is
+ * the outer one too, and any other is the midpoint of its interval, which the part beside it shares; of a box narrowed so nothing is proved.
+ * Refused by 1, 16, 3 for an edge (an infinite one is legal), 8 for a coordinate outside the ranges, two levels that differ or a block that
+ * begins outside the picture, 15 where a bound is not finite or ends of the box cross, in this order; then all six intervals are the whole
+ * line, so that an evaluator that did not look judges all there is, and is not wrong. */
+smyrilox_boxed smyrilox_block_box(smyrilox_plot plot, uint8_t kind, smyrilox_coordinate x, smyrilox_coordinate y);
+
+/* The outer box: from the least place of the one edge to the greatest of the other. */
+static inline smyrilox_interval smyrilox_outer_x(smyrilox_boxed box) {
+    smyrilox_interval x = {box.edges.left.lower, box.edges.right.upper};
+    return x;
+}
+
+static inline smyrilox_interval smyrilox_outer_y(smyrilox_boxed box) {
+    smyrilox_interval y = {box.edges.bottom.lower, box.edges.top.upper};
+    return y;
+}
+
 /* THE LAYOUT: where each field lies, in bytes, as the library has it; bytes that no field holds are padding. A compiler that is told to
  * lay records out otherwise stops here. */
 
@@ -402,6 +472,14 @@ SMYRILOX_SIZE(code, 32); SMYRILOX_PLACE(code, refusal, 0); SMYRILOX_PLACE(code, 
     SMYRILOX_PLACE(code, count, 24);
 SMYRILOX_SIZE(read, 24); SMYRILOX_PLACE(read, refusal, 0); SMYRILOX_PLACE(read, value, 8); SMYRILOX_PLACE(read, count, 16);
 SMYRILOX_SIZE(halved, 40); SMYRILOX_PLACE(halved, refusal, 0); SMYRILOX_PLACE(halved, low, 8); SMYRILOX_PLACE(halved, high, 24);
+SMYRILOX_SIZE(padding, 16); SMYRILOX_PLACE(padding, left, 0); SMYRILOX_PLACE(padding, right, 4); SMYRILOX_PLACE(padding, bottom, 8);
+    SMYRILOX_PLACE(padding, top, 12);
+SMYRILOX_SIZE(edges, 64); SMYRILOX_PLACE(edges, left, 0); SMYRILOX_PLACE(edges, right, 16); SMYRILOX_PLACE(edges, bottom, 32);
+    SMYRILOX_PLACE(edges, top, 48);
+SMYRILOX_SIZE(plot, 88); SMYRILOX_PLACE(plot, width, 0); SMYRILOX_PLACE(plot, height, 4); SMYRILOX_PLACE(plot, padding, 8);
+    SMYRILOX_PLACE(plot, edges, 24);
+SMYRILOX_SIZE(boxed, 104); SMYRILOX_PLACE(boxed, refusal, 0); SMYRILOX_PLACE(boxed, edges, 8); SMYRILOX_PLACE(boxed, x, 72);
+    SMYRILOX_PLACE(boxed, y, 88);
 
 #undef SMYRILOX_PLACE
 #undef SMYRILOX_SIZE

@@ -1,5 +1,6 @@
 //! Measures the port, most of it against the original in the same process, on the same pictures and verdicts. See ../README.md.
 
+mod boxes;
 mod clock;
 mod count;
 mod dock;
@@ -18,6 +19,8 @@ const USAGE: &str = "driver time ROUNDS
 driver customer ROUNDS
 driver year steps|run|rust HOURS
 driver count TASK port|rust run|steps|other
+driver boxes ROUNDS
+driver count-boxes quick|precise LEVEL
 driver growth
 driver room
 driver stack";
@@ -31,6 +34,8 @@ fn main() {
         ["customer", rounds] => time::time_customer(number(rounds)),
         ["year", engine, hours] => year::year(engine, number(hours) as u64),
         ["count", name, engine, part] => count::count(name, engine, part),
+        ["boxes", rounds] => boxes::time(number(rounds)),
+        ["count-boxes", kind, level] => boxes::count(kind, level.parse().expect("a level")),
         ["growth"] => growth::growth(),
         ["room"] => room::room(),
         ["stack"] => stack::measure(),

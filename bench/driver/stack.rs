@@ -2,6 +2,7 @@
 //! and every refusal that the entry can give.
 
 use crate::{
+    boxes,
     port::{abi, asked, calls::*, Port},
     watch::{taken, watched},
     worlds::*,
@@ -21,7 +22,7 @@ struct Row {
 pub struct Table(Vec<Row>);
 
 /// Each entry with the numbers that it can give. A run gives its own, and stops by those of its steps.
-const ENTRIES: [(&str, &[u64]); 19] = [
+const ENTRIES: [(&str, &[u64]); 20] = [
     ("run", &[2, 8]),
     ("run, by the number that stops it", &[4, 5, 6, 7, 8]),
     ("step", &[2, 4, 5, 6, 7, 8, 13]),
@@ -41,6 +42,7 @@ const ENTRIES: [(&str, &[u64]); 19] = [
     ("read_small", &[10, 11]),
     ("pixel_index and is_halvable", &[8]),
     ("halves", &[8]),
+    ("block_box", &[1, 3, 8, 15, 16]),
 ];
 
 impl Table {
@@ -84,6 +86,7 @@ pub fn measure() {
     intervals(&mut table);
     small_numbers(&mut table);
     coordinates(&mut table);
+    boxes::stack(&mut table);
     table.print();
 }
 

@@ -1,5 +1,5 @@
-/* The number of the records' layout: the size of each record that a chart's calls take or answer, and the places of its fields, in the order of the header, folded
- * into 64 bits by FNV-1a, a number at a time. The Rust crate and the Python module make the same number of their own declarations. */
+/* The number of the records' layout: the size of each record that a chart's or a plot's calls take or answer, and the places of its fields, in the order of the header,
+ * folded into 64 bits by FNV-1a, a number at a time. The Rust crate and the Python module make the same number of their own declarations. */
 #include "smyrilox.h"
 
 #define SIZE(record) sizeof(smyrilox_##record)
@@ -27,6 +27,10 @@ static const uint16_t numbers[] = {
     PLACE(tally, queued), PLACE(tally, share),
     SIZE(counted), PLACE(counted, refusal), PLACE(counted, counts),
     SIZE(pieces), PLACE(pieces, refusal), PLACE(pieces, count), PLACE(pieces, at),
+    SIZE(padding), PLACE(padding, left), PLACE(padding, right), PLACE(padding, bottom), PLACE(padding, top),
+    SIZE(edges), PLACE(edges, left), PLACE(edges, right), PLACE(edges, bottom), PLACE(edges, top),
+    SIZE(plot), PLACE(plot, width), PLACE(plot, height), PLACE(plot, padding), PLACE(plot, edges),
+    SIZE(boxed), PLACE(boxed, refusal), PLACE(boxed, edges), PLACE(boxed, x), PLACE(boxed, y),
 };
 
 uint64_t smyrilox_layout(void) {

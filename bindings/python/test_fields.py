@@ -28,6 +28,10 @@ LAYOUT = {
     "Number": (16, {"refusal": 0, "value": 8}),
     "Point": (16, {"refusal": 0, "value": 8}),
     "Pieces": (64, {"refusal": 0, "count": 8, "at": 16}),
+    "Padding": (16, {"left": 0, "right": 4, "bottom": 8, "top": 12}),
+    "Edges": (64, {"left": 0, "right": 16, "bottom": 32, "top": 48}),
+    "Plot": (88, {"width": 0, "height": 4, "padding": 8, "edges": 24}),
+    "Boxed": (104, {"refusal": 0, "edges": 8, "x": 72, "y": 88}),
 }
 
 

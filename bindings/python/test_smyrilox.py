@@ -109,8 +109,9 @@ class Refusals(Case):
         self.assertEqual(chart.run(b"\0\0\0\xd0", 9).why, "refused 5: child 3 (the first is 0), on level -1, cannot have the verdict 0xd0")
 
     def test_numbers_have_their_words(self):
-        self.assertEqual(sorted(smyrilox.WORDS), list(range(1, 15)))
+        self.assertEqual(sorted(smyrilox.WORDS), list(range(1, 17)))
         self.assertEqual(str(Refused(13)), "refused 13: the queue is empty")
+        self.assertEqual(str(Refused(16)), "refused 16: the padding leaves no width or no height")
         self.assertEqual(str(Refused(23)), "refused 23: this module has no words for it")
 
 

@@ -5,6 +5,7 @@
 #[cfg(port)]
 mod abi;
 mod blocks;
+mod boxes;
 #[cfg(port)]
 mod calls;
 mod damaged;
@@ -19,12 +20,15 @@ mod list;
 mod lockstep;
 mod odd;
 mod original;
+mod paper_boxes;
 mod play;
 mod player;
+mod plots;
 #[cfg(port)]
 mod port;
 mod random;
 mod record;
+mod rounding;
 mod setups;
 mod vectors;
 mod worked;
@@ -47,22 +51,28 @@ driver signs SEED CASES STEPS
 driver torn SEED CASES STEPS
 driver faults SEED
 driver edges SEED COUNT (with a port)
+driver boxes SEED COUNT
+driver rounding SEED COUNT FILE
 driver record SEED CASES STEPS FILE
 driver record-all SIDE FILE";
 
 /// The first engine.
 const FIRST: OriginalMaker = OriginalMaker(Manner::Zero);
 
-/// The second engine, and its leaves.
+/// The second engine, its leaves and its boxes.
 #[cfg(port)]
 const SECOND: port::PortMaker = port::PortMaker;
 #[cfg(port)]
 const SECOND_LEAVES: port::PortLeaves = port::PortLeaves;
+#[cfg(port)]
+const SECOND_BOXES: fn(&paper_boxes::Question) -> boxes::Answer = port::block_box;
 
 #[cfg(not(port))]
 const SECOND: document::DocumentMaker = document::DocumentMaker;
 #[cfg(not(port))]
 const SECOND_LEAVES: exact::Paper = exact::Paper;
+#[cfg(not(port))]
+const SECOND_BOXES: fn(&paper_boxes::Question) -> boxes::Answer = boxes::paper;
 
 /// Prints a series' figures and its first differences, and tells how many there are.
 fn report(name: &str, start: Instant, figures: String, differences: &[impl Debug]) -> usize {
@@ -114,6 +124,24 @@ fn edges(start: Instant, seed: u64, count: u64) -> usize {
     report("edges", start, format!("{questions} questions, {refusals} refusals due"), &differences)
 }
 
+fn boxes(start: Instant, seed: u64, count: u64) -> usize {
+    let f = boxes::ask(SECOND_BOXES, seed, count);
+    for (kind, name) in ["quick", "precise"].iter().enumerate() {
+        for (family, plots) in ["plain plots", "any plots"].iter().enumerate() {
+            println!("boxes, {name} map, {plots}, edges: {}", f.edges[kind][family]);
+            println!("boxes, {name} map, {plots}, ends inside a pixel: {}", f.middles[kind][family]);
+        }
+    }
+    let refusals = f.refusals.iter().map(|(number, times)| format!(" {number}:{times}")).collect::<String>();
+    let figures = format!(
+        "{} questions, answers{refusals}, {} boxes compared with the original, which stops for {} at the plot's edges and for {} \
+         at their ends; of those refused by 15 it has an infinite bound for {}, stops for {}, and has a box for {} near the \
+         largest number and {} with ends inside a pixel",
+        f.questions, f.compared, f.stops_at_edges, f.stops_at_ends, f.unbounded, f.crossing, f.overflows, f.narrowed
+    );
+    report("boxes", start, figures, &f.differences)
+}
+
 /// Every fault put in in turn, which the comparison must notice and name. Answers how often it did not.
 fn faults(start: Instant, seed: u64) -> usize {
     let (all, mut missed) = (faulty::Fault::all(), vec![]);
@@ -126,6 +154,16 @@ fn faults(start: Instant, seed: u64) -> usize {
     }
     let figures = format!("{} put in, {} noticed and named", all.len(), all.len() - missed.len());
     report("faults", start, figures, &missed)
+}
+
+/// The same of the boxes.
+fn box_faults(start: Instant, seed: u64) -> usize {
+    let notices = |words: &str, fault: fn(boxes::Answer) -> boxes::Answer| {
+        boxes::ask(|q| fault(boxes::paper(q)), seed, 20).differences.iter().any(|d| d.starts_with(words))
+    };
+    let missed: Vec<_> = boxes::FAULTS.iter().filter(|(words, fault)| !notices(words, *fault)).map(|f| f.0).collect();
+    let all = boxes::FAULTS.len();
+    report("faults in boxes", start, format!("{all} put in, {} noticed and named", all - missed.len()), &missed)
 }
 
 /// Writes a list that has been made in memory.
@@ -179,7 +217,12 @@ fn main() {
         ["leaves", seed, count] => leaves(start, number(seed), number(count)),
         #[cfg(port)]
         ["edges", seed, count] => edges(start, number(seed), number(count)),
-        ["faults", seed] => faults(start, number(seed)),
+        ["boxes", seed, count] => boxes(start, number(seed), number(count)),
+        ["rounding", seed, count, file] => {
+            let (seed, count) = (number(seed), number(count));
+            save(format!("rounding: seed {seed}, {count} operations"), rounding::table(seed, count).into_bytes(), file)
+        }
+        ["faults", seed] => faults(start, number(seed)) + box_faults(start, number(seed)),
         ["record", seed, cases, steps, file] => record(number(seed), number(cases), number(steps), file),
         ["record-all", side, file] => record_all(number(side), file),
         ["exhaustive", side, depth] => {

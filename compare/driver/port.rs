@@ -1,6 +1,6 @@
 //! Another engine behind the C interface of `abi.rs`, with the memory that it is lent.
 
-use crate::{abi, calls::*, engine::*, leaves::Leaves};
+use crate::{abi, boxes::Answer, calls::*, engine::*, leaves::Leaves, paper_boxes::*};
 
 fn interval((lower, upper): Bounds) -> abi::Interval {
     abi::Interval { lower, upper }
@@ -224,4 +224,19 @@ impl Leaves for PortLeaves {
         let answer = unsafe { smyrilox_is_halvable(coordinate(0, level)) };
         answered(answer.refusal, answer.value == 1)
     }
+}
+
+/// A block's box. Any byte but 0 asks for the precise map.
+pub fn block_box(q: &Question) -> Answer {
+    let place = |(index, level): (u64, i32)| abi::Coordinate { index, level };
+    let [left, right, bottom, top] = q.plot.padding;
+    let padding = abi::Padding { left, right, bottom, top };
+    let [left, right, bottom, top] = q.plot.edges.map(interval);
+    let edges = abi::Edges { left, right, bottom, top };
+    let plot = abi::Plot { width: q.plot.width, height: q.plot.height, padding, edges };
+    let kind = if q.precise { 1 + (q.x.0 % 255) as u8 } else { 0 };
+    let made = unsafe { smyrilox_block_box(plot, kind, place(q.x), place(q.y)) };
+    let abi::Edges { left, right, bottom, top } = made.edges;
+    let edges = [left, right, bottom, top].map(bounds);
+    (made.refusal as Refusal, Boxed { edges, ends: [bounds(made.x), bounds(made.y)] })
 }

@@ -13,7 +13,11 @@ mod engine;
 mod original;
 
 use engine::*;
-use oracle::{leaf, relation::Manner};
+use oracle::{
+    boxes::{Picture, Plot},
+    leaf,
+    relation::Manner,
+};
 use original::{Original, OriginalMaker};
 use std::slice::{from_raw_parts, from_raw_parts_mut};
 
@@ -253,4 +257,30 @@ pub extern "C" fn smyrilox_halves(c: abi::Coordinate) -> abi::Halved {
 #[no_mangle]
 pub extern "C" fn smyrilox_is_halvable(c: abi::Coordinate) -> abi::Number {
     number(leaf::is_subdivisible_coordinate(c.index, c.level as i8) as u64)
+}
+
+/// The original's own box, of a plot and a block that are legal; where it stops, or has no bound, 15.
+#[no_mangle]
+pub extern "C" fn smyrilox_block_box(plot: abi::Plot, kind: u8, x: abi::Coordinate, y: abi::Coordinate) -> abi::Boxed {
+    let abi::Padding { left, right, bottom, top } = plot.padding;
+    let abi::Edges { left: l, right: r, bottom: b, top: t } = plot.edges;
+    let asked = Plot {
+        width: plot.width,
+        height: plot.height,
+        padding: [left, right, bottom, top],
+        edges: [l, r, b, t].map(bounds),
+    };
+    let picture = Picture::new(&asked, kind != 0);
+    let [left, right, bottom, top] = picture.edges(x.index, y.index, x.level as i8).map(interval);
+    let line = abi::Interval::WHOLE;
+    let none = abi::Boxed {
+        refusal: 15,
+        edges: abi::Edges { left: line, right: line, bottom: line, top: line },
+        x: line,
+        y: line,
+    };
+    picture.evaluated(x.index, y.index, x.level as i8).map_or(none, |ends| {
+        let [x, y] = ends.map(interval);
+        abi::Boxed { refusal: 0, edges: abi::Edges { left, right, bottom, top }, x, y }
+    })
 }

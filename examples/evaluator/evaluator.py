@@ -9,10 +9,11 @@ import os
 import sys
 
 sys.path.insert(0, os.path.join(os.path.dirname(os.path.abspath(__file__)), "..", "..", "bindings", "python"))
-from smyrilox import AREA, M, NO, UNDECIDED, X, Y, Chart, Setup, found_at, simple_fraction, yes_for  # noqa: E402
+from smyrilox import AREA, M, NO, UNDECIDED, X, Y, Chart, Plot, Refused, Setup, found_at, simple_fraction, yes_for  # noqa: E402
 
 WIDTH, HEIGHT = 60, 40  # pixels
 ARRIVALS, CREW = 110, 29  # what the right and the upper edge stand for; the left and the lower stand for 0
+PLOT = Plot(WIDTH, HEIGHT, left=0, right=ARRIVALS, bottom=0, top=CREW)
 DOORS = (1.0, 9.0)
 STEPS = 5000  # at most
 
@@ -23,12 +24,6 @@ def down(x):
 
 def up(x):
     return math.nextafter(x, math.inf)
-
-
-def units(pixels, top, side):
-    """What stands at these pixels of an axis, rounded outward: pixel p is p * top / side."""
-    low, high = pixels
-    return down(down(low * top) / side), up(up(high * top) / side)
 
 
 def spare(a, c, m):
@@ -45,24 +40,36 @@ def doors(m):
 
 
 def verdict(block):
-    m = doors(block.m)
-    low, high = spare(units(block.x.span, ARRIVALS, WIDTH), units(block.y.span, CREW, HEIGHT), m)
+    """Judges the outer box, in which every point of the block lies. Without a box nothing is known."""
+    try:
+        m, box = doors(block.m), PLOT.block_box(block)
+    except Refused:
+        return UNDECIDED
+    low, high = spare(*box.outer, m)
     if high < 0:
         return NO
     if low >= 0:
         return yes_for(block)
-    return sampled(block, m) if block.level < 0 else UNDECIDED
+    return sampled(box.edges, m) if block.level < 0 else UNDECIDED
 
 
-def sampled(block, m):
-    """Tries five points of a part of a pixel, exact in pixels, with one number of doors."""
-    x, y = block.x.span, block.y.span
-    points = [(simple_fraction(*x), simple_fraction(*y))] + [(p, q) for q in y for p in x]
-    for place, (p, q) in enumerate(points):
-        a, c = units((p, p), ARRIVALS, WIDTH), units((q, q), CREW, HEIGHT)
+def sampled(edges, m):
+    """Tries five points of a part of a pixel with one number of doors: a simple one, then the corners from the bottom left.
+    A corner lies somewhere in two of the edges' intervals; it counts only if the mix works wherever that is."""
+    left, right, bottom, top = edges
+    points = [(simple(left, right), simple(bottom, top))] + [(x, y) for y in (bottom, top) for x in (left, right)]
+    for place, (a, c) in enumerate(points):
         if spare(a, c, (m[0], m[0]))[0] >= 0:
             return found_at(place)
     return UNDECIDED | AREA
+
+
+def simple(low, high):
+    """A number with few bits that surely lies between two edges; where there is none, all that may lie between them."""
+    if low[1] > high[0]:
+        return low[0], high[1]
+    p = simple_fraction(low[1], high[0])
+    return p, p
 
 
 def main():

@@ -87,8 +87,8 @@ def main(other):
             check(block in files, f"the page quotes what no file has:\n{block}")
 
     check(edge.drawn(edge.exact, 1000) == ("..########", 0), "exactly judged, the edge is a mix of the pixel before it")
-    early, late = edge.drawn(edge.rounded, 100), edge.drawn(edge.rounded, 1000)
-    check(early[0] == "..?#######" and late == (early[0], 996) and early[1] < 996, "rounded outward, that pixel stays grey, and the queue grows")
+    early, late = edge.drawn(edge.boxed, 100), edge.drawn(edge.boxed, 1000)
+    check(early[0] == "..?#######" and late == (early[0], 996) and early[1] < 996, "judged by boxes, that pixel stays grey, and the queue grows")
     print("examples/evaluator: every answer right, every pixel as worked out exactly, every quotation as in its file" + (", Rust as Python" if other else ""))
 
 

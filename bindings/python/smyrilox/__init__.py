@@ -13,6 +13,11 @@ A chart that was loaded is as good as the bytes it came from (bindings/SAVED.md)
     run.ending          # 'done'
     chart.rows()        # [b'\\x00\\x02']
 
+A Plot says where a picture lies in the caller's units, and gives a block's box there, rounded outward:
+
+    plot = Plot(60, 40, left=0, right=110, bottom=0, top=29)
+    arrivals, crew = plot.block_box(block).outer
+
 The library, libsmyrilox.so, is looked for beside this module, then where the environment's SMYRILOX_SO says, then among the repository's
 products, where bindings/build puts it, then where the system's loader looks.
 """
@@ -20,6 +25,7 @@ products, where bindings/build puts it, then where the system's loader looks.
 from ._block import M, N, THETA, T, WHOLE, X, Y, Block, Coordinate, Interval, Setup
 from ._chart import Chart, Counts, Grey, Reading, Run, Step
 from ._leaves import first_cut, later_cut, midpoint, simple_fraction
+from ._plot import BlockBox, Edges, MapKind, Padding, Plot
 from ._refusal import WORDS, NoMemory, Refused
 from ._saved import NotLoaded
 from ._verdict import AREA, NO, UNDECIDED, YES, Verdict, found_at, yes_for
@@ -50,6 +56,11 @@ __all__ = [
     "Counts",
     "Reading",
     "Grey",
+    "Plot",
+    "Padding",
+    "Edges",
+    "MapKind",
+    "BlockBox",
     "WORDS",
     "Refused",
     "NoMemory",

@@ -5,6 +5,7 @@ import os
 from ctypes import POINTER, Structure, c_bool, c_double, c_int32, c_size_t, c_uint8, c_uint32, c_uint64
 
 PARAMETERS = ("m", "n", "theta", "t")
+SIDES = ("left", "right", "bottom", "top")
 
 
 class Interval(Structure):
@@ -84,7 +85,24 @@ class Pieces(Structure):
     _fields_ = [("refusal", c_uint64), ("count", c_size_t), ("at", Interval * 3)]
 
 
+class Padding(Structure):
+    _fields_ = [(side, c_uint32) for side in SIDES]
+
+
+class Edges(Structure):
+    _fields_ = [(side, Interval) for side in SIDES]
+
+
+class Plot(Structure):
+    _fields_ = [("width", c_uint32), ("height", c_uint32), ("padding", Padding), ("edges", Edges)]
+
+
+class Boxed(Structure):
+    _fields_ = [("refusal", c_uint64), ("edges", Edges), ("x", Interval), ("y", Interval)]
+
+
 RECORDS = (Interval, Ranges, Coordinate, Last, Chosen, State, Child, Number, Point, Started, Moved, Listed, Stepped, Ran, Tally, Counted, Pieces)
+RECORDS += (Padding, Edges, Plot, Boxed)
 
 
 def layout(records=RECORDS) -> int:
@@ -144,6 +162,7 @@ def declared(found):
         ("simple_fraction", [Interval], Point),
         ("first_cut", [Interval, c_bool], Pieces),
         ("later_cut", [Interval, c_bool], Pieces),
+        ("block_box", [Plot, c_uint8, Coordinate, Coordinate], Boxed),
     ):
         function = getattr(found, "smyrilox_" + name)
         function.argtypes, function.restype = takes, answers

@@ -4,18 +4,20 @@
 WORDS = {
     1: "a side is 0 or over 32768",
     2: "there are fewer cells than pixels",
-    3: "the set of variables or the range of a parameter is not legal",
+    3: "the set of variables, the range of a parameter or the interval of a plot's edge is not legal",
     4: "there is not one verdict for each child",
     5: "a verdict is not legal for its child",
     6: "the new blocks do not fit the ring",
     7: "the numbers of blocks are used up",
-    8: "the record, the front block or a cell is damaged",
+    8: "the record, the front block or a cell is damaged, or a block is none of the plot's",
     9: "the number has no code",
     10: "the bytes of a code end early",
     11: "a code begins with the byte 0",
     12: "the picture buffer is shorter than the pixels",
     13: "the queue is empty",
     14: "the sheet is not one that the program takes",
+    15: "a bound of the box is not finite, or its ends cross",
+    16: "the padding leaves no width or no height",
 }
 
 

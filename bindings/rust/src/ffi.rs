@@ -18,6 +18,13 @@ impl Interval {
     }
 }
 
+/// One number alone.
+impl From<f64> for Interval {
+    fn from(x: f64) -> Interval {
+        Interval::new(x, x)
+    }
+}
+
 #[repr(C)]
 #[derive(Clone, Copy, Debug, Default, PartialEq)]
 pub struct Ranges {
@@ -191,6 +198,44 @@ pub struct Halved {
     pub high: Coordinate,
 }
 
+/// Pixels at the rim of a picture, outside of its edges.
+#[repr(C)]
+#[derive(Clone, Copy, Debug, Default, PartialEq, Eq)]
+pub struct Padding {
+    pub left: u32,
+    pub right: u32,
+    pub bottom: u32,
+    pub top: u32,
+}
+
+/// Four intervals: somewhere in each stands the edge of that name, of a picture or of a block, in the caller's units.
+#[repr(C)]
+#[derive(Clone, Copy, Debug, Default, PartialEq)]
+pub struct Edges {
+    pub left: Interval,
+    pub right: Interval,
+    pub bottom: Interval,
+    pub top: Interval,
+}
+
+#[repr(C)]
+#[derive(Clone, Copy, Debug, Default, PartialEq)]
+pub struct Plot {
+    pub width: u32,
+    pub height: u32,
+    pub padding: Padding,
+    pub edges: Edges,
+}
+
+#[repr(C)]
+#[derive(Clone, Copy, Debug, Default, PartialEq)]
+pub struct Boxed {
+    pub refusal: u64,
+    pub edges: Edges,
+    pub x: Interval,
+    pub y: Interval,
+}
+
 extern "C" {
     pub fn smyrilox_layout() -> u64;
     pub fn smyrilox_cells(width: u32, height: u32) -> Number;
@@ -238,4 +283,5 @@ extern "C" {
     pub fn smyrilox_pixel_index(c: Coordinate) -> Number;
     pub fn smyrilox_halves(c: Coordinate) -> Halved;
     pub fn smyrilox_is_halvable(c: Coordinate) -> Number;
+    pub fn smyrilox_block_box(plot: Plot, kind: u8, x: Coordinate, y: Coordinate) -> Boxed;
 }

@@ -34,6 +34,10 @@ fn numbers() -> Vec<usize> {
         Tally: trues falses uncertain givenup queued share;
         Counted: refusal counts;
         Pieces: refusal count at;
+        Padding: left right bottom top;
+        Edges: left right bottom top;
+        Plot: width height padding edges;
+        Boxed: refusal edges x y;
     }
 }
 
@@ -61,6 +65,7 @@ mod tests {
             &[16, 0, 8], &[64, 0, 16, 32, 48], &[16, 0, 8], &[80, 0, 8, 16, 32, 48, 64], &[12, 0, 4, 8, 9, 10, 11],
             &[216, 0, 16, 24, 32, 40, 48, 56, 136], &[96, 0, 16, 32, 48, 64, 80], &[16, 0, 8], &[16, 0, 8], &[224, 0, 8], &[224, 0, 8],
             &[400, 0, 8, 16], &[240, 0, 8, 16, 24], &[264, 0, 8, 16, 24, 32, 40, 48], &[48, 0, 8, 16, 24, 32, 40], &[56, 0, 8], &[64, 0, 8, 16],
+            &[16, 0, 4, 8, 12], &[64, 0, 16, 32, 48], &[88, 0, 4, 8, 24], &[104, 0, 8, 72, 88],
         ];
         assert_eq!(super::numbers(), header.concat());
         super::is_the_librarys();

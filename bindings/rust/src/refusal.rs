@@ -24,6 +24,10 @@ pub enum Refusal {
     Picture,
     Empty,
     Sheet,
+    /// A bound of a block's box is not finite, or ends of the box cross.
+    Bounds,
+    /// The padding of a plot leaves no width or no height.
+    Padding,
     /// A number that this crate has no name for: the library is a later one.
     Other(u64),
 }
@@ -31,19 +35,21 @@ pub enum Refusal {
 use Refusal::*;
 
 /// The refusals that say no more than their number, with their words.
-const TABLE: [(u64, Refusal, &str); 12] = [
+const TABLE: [(u64, Refusal, &str); 14] = [
     (1, Side, "a side is 0 or over 32768"),
     (2, Cells, "there are fewer cells than pixels"),
-    (3, Parameter, "the set of variables or the range of a parameter is not legal"),
+    (3, Parameter, "the set of variables, the range of a parameter or the interval of a plot's edge is not legal"),
     (6, Room, "the new blocks do not fit the ring"),
     (7, Numbers, "the numbers of blocks are used up"),
-    (8, Damaged, "the record, the front block or a cell is damaged"),
+    (8, Damaged, "the record, the front block or a cell is damaged, or a block is none of the plot's"),
     (9, TooLarge, "the number has no code"),
     (10, EndsEarly, "the bytes of a code end early"),
     (11, HeadZero, "a code begins with the byte 0"),
     (12, Picture, "the picture buffer is shorter than the pixels"),
     (13, Empty, "the queue is empty"),
     (14, Sheet, "the sheet is not one that the program takes"),
+    (15, Bounds, "a bound of the box is not finite, or its ends cross"),
+    (16, Padding, "the padding leaves no width or no height"),
 ];
 
 impl Refusal {

@@ -100,8 +100,10 @@ fn no_room() {
 fn numbers() {
     use Refusal::*;
     let (verdicts, verdict) = (Verdicts { given: 0, children: 1 }, Verdict { child: 0, level: 0, byte: 1 });
-    let named = [Side, Cells, Parameter, verdicts, verdict, Room, Numbers, Damaged, TooLarge, EndsEarly, HeadZero, Picture, Empty, Sheet];
-    assert_eq!(named.map(Refusal::number), [1, 2, 3, 4, 5, 6, 7, 8, 9, 10, 11, 12, 13, 14]);
+    let named = [
+        Side, Cells, Parameter, verdicts, verdict, Room, Numbers, Damaged, TooLarge, EndsEarly, HeadZero, Picture, Empty, Sheet, Bounds, Padding,
+    ];
+    assert_eq!(named.map(Refusal::number), [1, 2, 3, 4, 5, 6, 7, 8, 9, 10, 11, 12, 13, 14, 15, 16]);
     assert_eq!((Other(23).number(), Other(23).to_string().as_str()), (23, "refused 23: this crate has no words for it"));
 }
 
@@ -113,5 +115,7 @@ fn words() {
         Refusal::Verdict { child: 1, level: -2, byte: 0x01 }.to_string(),
         "refused 5: child 1 (the first is 0), on level -2, cannot have the verdict 0x01"
     );
-    assert_eq!(NotLoaded::Refused(Refusal::Damaged).to_string(), "refused 8: the record, the front block or a cell is damaged");
+    assert_eq!(Refusal::Padding.to_string(), "refused 16: the padding leaves no width or no height");
+    let damaged = "refused 8: the record, the front block or a cell is damaged, or a block is none of the plot's";
+    assert_eq!(NotLoaded::Refused(Refusal::Damaged).to_string(), damaged);
 }

@@ -1,9 +1,12 @@
 //! Stand-in for the crate `inari`: intervals of doubles as IEEE 1788-2015 has them, as far as the refinement asks.
 //!
 //! A zero lower bound is held as -0 and a zero upper bound as +0, whatever sign it came with. The empty interval is
-//! [+inf, -inf]. Arithmetic exists only for a picture that is mapped to itself: on anything else it stops the program,
-//! so no answer ever rests on a rounding of this file except those of `mid` and `wid`.
+//! [+inf, -inf]. Of the arithmetic there is what a picture's map asks for, each bound the exact result rounded outward
+//! (`directed.rs`). A picture that is mapped to itself, as all but the boxes have it, is answered without a rounding.
 
+mod directed;
+
+use directed::{fused, quotient};
 use std::ops::{Div, Neg, Sub};
 
 /// How well a function is defined over a box, from not at all upwards.
@@ -144,10 +147,38 @@ impl Interval {
         self.is_empty() || other.lower <= self.lower && self.upper <= other.upper
     }
 
-    /// `self` times `factor` plus `rest`, for the factor 1 and the rest 0.
+    /// `self` times `factor` plus `rest`, rounded once.
     pub fn mul_add(self, factor: Self, rest: Self) -> Self {
-        assert!(factor == Self::ONE && rest == Self::ZERO, "only the map of a picture to itself is stood in for");
-        self
+        if factor == Self::ONE && rest == Self::ZERO {
+            return self;
+        }
+        if self.is_empty() || factor.is_empty() || rest.is_empty() {
+            return Self::EMPTY;
+        }
+        let corners = self.corners(factor);
+        let low = corners.map(|(a, b)| sum_of_product(a, b, rest.lower, |a, b, c| fused(a, b, c).down()));
+        let high = corners.map(|(a, b)| sum_of_product(a, b, rest.upper, |a, b, c| fused(a, b, c).up()));
+        Self::around(low, high)
+    }
+
+    fn corners(self, other: Self) -> [(f64, f64); 4] {
+        let (a, b) = ((self.lower, self.upper), (other.lower, other.upper));
+        [(a.0, b.0), (a.0, b.1), (a.1, b.0), (a.1, b.1)]
+    }
+
+    fn around(low: [f64; 4], high: [f64; 4]) -> Self {
+        Self::put(low.into_iter().fold(f64::INFINITY, f64::min), high.into_iter().fold(f64::NEG_INFINITY, f64::max))
+    }
+}
+
+/// a times b plus c, where nought times an infinity is nought, and an infinite bound c stays what it is.
+fn sum_of_product(a: f64, b: f64, c: f64, rounded: impl Fn(f64, f64, f64) -> f64) -> f64 {
+    if c.is_infinite() || a == 0.0 || b == 0.0 {
+        c
+    } else if a.is_infinite() || b.is_infinite() {
+        a * b
+    } else {
+        rounded(a, b, c)
     }
 }
 
@@ -155,8 +186,10 @@ impl Sub for Interval {
     type Output = Self;
 
     fn sub(self, rhs: Self) -> Self {
-        assert!(rhs == Self::ZERO, "only the map of a picture to itself is stood in for");
-        self
+        if rhs == Self::ZERO {
+            return self;
+        }
+        Self::ONE.mul_add(self, -rhs)
     }
 }
 
@@ -164,8 +197,7 @@ impl Neg for Interval {
     type Output = Self;
 
     fn neg(self) -> Self {
-        assert!(self == Self::ZERO, "only the map of a picture to itself is stood in for");
-        self
+        Self::put(-self.upper, -self.lower)
     }
 }
 
@@ -173,9 +205,18 @@ impl Div for Interval {
     type Output = Self;
 
     fn div(self, rhs: Self) -> Self {
-        let same = self == rhs && self.is_singleton() && self != Self::ZERO;
-        assert!(same, "only the map of a picture to itself is stood in for");
-        Self::ONE
+        if self == rhs && self.is_singleton() && self != Self::ZERO {
+            return Self::ONE;
+        }
+        let bounded = rhs.lower.is_finite() && rhs.upper.is_finite();
+        assert!(bounded && (0.0 < rhs.lower || rhs.upper < 0.0), "a bounded divisor without zero is stood in for");
+        if self.is_empty() {
+            return self;
+        }
+        let corners = self.corners(rhs);
+        let low = corners.map(|(a, b)| if a.is_infinite() { a * b } else { quotient(a, b).down() });
+        let high = corners.map(|(a, b)| if a.is_infinite() { a * b } else { quotient(a, b).up() });
+        Self::around(low, high)
     }
 }
 

@@ -32,6 +32,19 @@ pub fn width(x: Bounds) -> f64 {
     interval(x).wid()
 }
 
+/// The difference, the quotient, and a product and a sum rounded together, which are the stand-in's own.
+pub fn minus(x: Bounds, y: Bounds) -> Bounds {
+    bounds(interval(x) - interval(y))
+}
+
+pub fn over(x: Bounds, y: Bounds) -> Bounds {
+    bounds(interval(x) / interval(y))
+}
+
+pub fn fused(x: Bounds, y: Bounds, z: Bounds) -> Bounds {
+    bounds(interval(x).mul_add(interval(y), interval(z)))
+}
+
 pub fn simple_fraction(x: Bounds) -> f64 {
     implicit::peek::fraction(interval(x))
 }

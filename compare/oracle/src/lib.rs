@@ -1,6 +1,6 @@
 //! The original refinement as a library: its own files, copied and lightly edited by `prepare.py`, among stand-ins
 //! for what it leans on. `original` names the copied files, everything else here is ours.
-//! `oracle` is what callers use; `leaf` has the small functions one by one.
+//! `oracle` is what callers use; `leaf` has the small functions one by one, `boxes` the real coordinates of blocks.
 #![allow(dead_code, unused_imports)]
 
 // The original.
@@ -22,6 +22,7 @@ pub mod relation;
 pub mod vars;
 
 // The way in.
+pub mod boxes;
 pub mod leaf;
 pub mod oracle;
 

@@ -2,3 +2,4 @@
 pub mod Engine
 pub mod Leaf
 pub mod LeafComputed
+pub mod Boxing

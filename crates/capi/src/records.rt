@@ -1,4 +1,5 @@
-// What crosses besides the engine's own records `State`, `Ranges`, `Tally` and `Interval`.
+// What crosses besides the engine's own records `State`, `Ranges`, `Tally` and `Interval`, and `Plot` with its parts.
+use boxes::Edges;
 use implicit::State;
 use implicit::Tally;
 use interval::Interval;
@@ -121,4 +122,13 @@ pub struct Halved {
     pub refusal: u64,
     pub low: Coordinate,
     pub high: Coordinate,
+}
+
+// A block's box: its edges, and the intervals along x and y, from level 0 down narrowed.
+#[repr(C)]
+pub struct Boxed {
+    pub refusal: u64,
+    pub edges: Edges,
+    pub x: Interval,
+    pub y: Interval,
 }

@@ -32,6 +32,10 @@ pixel rank i = i * 2 ^ (rank - 48) / 2 ^ (48 - rank)
 abbrev pub aboveFloor : ℕ → ℕ → Bool
 aboveFloor floor rank = ltb floor rank
 
+-- a side that row 1 of the table does not refuse
+abbrev pub legalSide : ℕ → Bool
+legalSide side = leb 1 side && leb side 32768
+
 -- how many indices of a rank begin inside a side of so many pixels: the side over 2^k, rounded up
 unfoldable pub places : ℕ → ℕ → ℕ
 places side rank = (side * 2 ^ 48 + (2 ^ rank - 1)) / 2 ^ rank

@@ -11,7 +11,7 @@ use Rattle.coordinate.specs.declared.PixelAnswer.{PixelAnswer}
 use Rattle.coordinate.specs.declared.PixelAnswer.the-variants as P
 use Rattle.coordinate.specs.declared.HalvesAnswer.{HalvesAnswer}
 use Rattle.coordinate.specs.declared.HalvesAnswer.the-variants as H
-use Rattle.coordinate.specs.Axis.{inRange, pixel, aboveFloor, inside}
+use Rattle.coordinate.specs.Axis.{ordinaryFloor, inRange, pixel, aboveFloor, inside}
 
 -- index and level are in the ranges
 abbrev pub legal : ℕ → Coordinate → Bool
@@ -44,3 +44,7 @@ subdivisibleAsked floor c = cond (legal floor c) (answered (aboveFloor floor (c 
 -- whether it begins inside a side, or 8
 unfoldable pub insideAsked : ℕ → Coordinate → ℕ → Whether
 insideAsked floor c side = cond (legal floor c) (answered (inside side (c .rank) (c .index))) (W.Refused R.Damaged)
+
+-- it is in the ranges for index and level, and begins inside its side: what a block's coordinates are asked
+abbrev pub placeRight : ℕ → Coordinate → Bool
+placeRight side c = legal ordinaryFloor c && inside side (c .rank) (c .index)

@@ -3,8 +3,8 @@
 // A lone coordinate outside the ranges is refused by 8.
 ghost use mathlib.Core.Path.{_≡_};
 ghost use Prim.Native.Nat.{_<_};
-ghost use Rattle.coordinate.specs.Axis.{ordinaryFloor, inside};
-ghost use Rattle.coordinate.specs.Lone.{legal, pixelAsked, halvesAsked, subdivisibleAsked, insideAsked};
+ghost use Rattle.coordinate.specs.Axis.{ordinaryFloor, legalSide, inside};
+ghost use Rattle.coordinate.specs.Lone.{legal, pixelAsked, halvesAsked, subdivisibleAsked, insideAsked, placeRight};
 use refusal::Refusal;
 use refusal::Whether;
 
@@ -35,6 +35,13 @@ pub enum PixelAnswer {
 pub enum HalvesAnswer {
     Halves { low: Coordinate, high: Coordinate },
     Refused(Refusal),
+}
+
+// Whether a side is one that a picture can have.
+pub fn is_legal_side(side: u32) -> bool
+    ensures { λ r. ⌜ r ≡ legalSide side ⌝ }
+{
+    (1 <= side) & (side <= LONGEST_SIDE)
 }
 
 // Whether index and level are in the ranges.
@@ -106,6 +113,16 @@ pub fn is_inside(c: Coordinate, side: u32) -> Whether
     } else {
         Whether::No
     }
+}
+
+// Whether it is in the ranges and begins inside.
+pub fn is_placed(c: Coordinate, side: u32) -> bool
+    ensures { λ r. ⌜ r ≡ placeRight side c ⌝ }
+{
+    if !is_legal(c) {
+        return false;
+    }
+    begins_inside(c.index, c.rank, side as u64)
 }
 
 // The same without a product, which could be too large: a comparison of pixels below the pixel level, of places from it up.

@@ -6,14 +6,12 @@ use Prim.Native.Nat.{ℕ, _≤_}
 use lib.Dec.{leb, eqb}
 use lib.ListN.{length}
 use borrow.Author.Tests.{leb-true, eqb-true, eq-eqb}
-use Rattle.base.proofs.Test.{cases, and-left, and-right, and-both}
+use Rattle.base.proofs.Test.{and-left, and-right, and-both}
 use Rattle.refusal.specs.declared.Whether.{Whether}
 use Rattle.refusal.specs.declared.Whether.the-variants as W
-use Rattle.refusal.specs.Number.{answered}
 use Rattle.coordinate.specs.declared.Coordinate.{Coordinate}
 use Rattle.coordinate.specs.Axis.{ordinaryFloor, inside}
-use Rattle.coordinate.specs.Lone.{legal, insideAsked}
-use Rattle.coordinate.proofs.LoneLaws.{inside-refused, inside-answered}
+use Rattle.coordinate.specs.Lone.{legal}
 use Rattle.interval.specs.Bounds.{legalInterval, wholeBound, legalBounds, sameInterval}
 use Rattle.image.specs.declared.PixelRange.{PixelRange}
 use Rattle.image.specs.declared.Seen.{Seen}
@@ -56,21 +54,6 @@ abbrev pub isYes : Whether → Bool
 isYes W.Yes = true
 isYes W.No = false
 isYes (W.Refused r) = false
-
-yes-placed : (side : ℕ) (c : Coordinate) → isYes (insideAsked ordinaryFloor c side) ≡ placeRight side c
-yes-placed side c =
-    let i = inside side (c .rank) (c .index) in
-    cases (legal ordinaryFloor c)
-    (λ e. ap isYes (inside-answered ordinaryFloor c side i e refl) ∙ rw e (go i))
-    (λ e. ap isYes (inside-refused ordinaryFloor c side e) ∙ rw e)
-  where
-    go : (b : Bool) → isYes (answered b) ≡ b
-    go true = refl
-    go false = refl
-
-pub placed-as : (side : ℕ) (c : Coordinate) (w v : Whether)
-    → w ≡ insideAsked ordinaryFloor c side → w ≡ v → isYes v ≡ placeRight side c
-placed-as side c w v e f = ap isYes (sym f ∙ e) ∙ yes-placed side c
 
 pub directed-along : (p : Chosen) (b : Block) (a : DirectionAt) (d : Direction) (r : Bool)
     → a ≡ directionOf p b → a ≡ A.Along d → r ≡ cuttable b d → r ≡ directionRight p b (directionOf p b)

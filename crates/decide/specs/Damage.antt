@@ -5,9 +5,9 @@ use mathlib.Core.List.{List}
 use Prim.Native.Nat.{ℕ}
 use lib.Dec.{leb, eqb}
 use lib.ListN.{length}
-use Rattle.coordinate.specs.declared.Coordinate.{Coordinate}
-use Rattle.coordinate.specs.Axis.{ordinaryFloor, aboveFloor, inside}
-use Rattle.coordinate.specs.Lone.{legal}
+use Rattle.coordinate.specs.Axis.{ordinaryFloor, aboveFloor}
+pub use Rattle.coordinate.specs.Axis.{legalSide}
+pub use Rattle.coordinate.specs.Lone.{placeRight}
 use Rattle.interval.specs.Bounds.{legalInterval}
 use Rattle.image.specs.Cell.{Cell, isDamaged}
 use Rattle.image.specs.Range.{rectangleOf}
@@ -22,10 +22,6 @@ use Rattle.queue.specs.declared.directions.DirectionAt.the-variants as A
 use Rattle.queue.specs.Directions.{directions, directionAt}
 use Rattle.decide.specs.declared.Chosen.{Chosen}
 
--- a side that row 1 does not refuse
-abbrev pub legalSide : ℕ → Bool
-legalSide side = leb 1 side && leb side 32768
-
 -- a variable set that row 3 does not refuse
 abbrev pub legalSet : ℕ → Bool
 legalSet set = leb set 63
@@ -36,10 +32,6 @@ legalChosen p = legalSide (p .width) && legalSide (p .height) && legalSet (p .se
 -- the direction that a block's byte names
 abbrev pub directionOf : Chosen → Block → DirectionAt
 directionOf p b = directionAt (directions (p .set)) (b .dir)
-
--- a coordinate is in the ranges for index and level, and begins inside its side
-abbrev pub placeRight : ℕ → Coordinate → Bool
-placeRight side c = legal ordinaryFloor c && inside side (c .rank) (c .index)
 
 -- a direction that the block can be cut along: xy only above the floor
 abbrev pub cuttable : Block → Direction → Bool

@@ -11,11 +11,11 @@ ghost use Rattle.decide.specs.Children.{movedTo, childrenXY, childrenCut
 ghost use Rattle.decide.specs.ChildrenComputed.{isKept, quartersKept};
 use super::Chosen;
 use super::damage::is_legal_chosen;
-use super::damage::is_placed;
 use super::damage::is_undamaged;
 use coordinate::Coordinate;
 use coordinate::HalvesAnswer;
 use coordinate::PIXEL_RANK;
+use coordinate::is_placed;
 use interval::PiecesAnswer;
 use queue::Block;
 use queue::Direction;

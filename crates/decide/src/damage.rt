@@ -1,11 +1,11 @@
 // Which pictures are legal, and which blocks are damaged.
 ghost use mathlib.Core.Path.{_≡_};
 ghost use Rattle.interval.specs.Bounds.{legalInterval};
-ghost use Rattle.decide.specs.Damage.{legalSide, legalChosen, placeRight, directionOf, directionRight, cuttable, parametersRight, undamaged, damageSeen};
+ghost use Rattle.decide.specs.Damage.{legalChosen, directionOf, directionRight, cuttable, parametersRight, undamaged, damageSeen};
 use super::Chosen;
-use coordinate::Coordinate;
 use coordinate::FLOOR_RANK;
-use coordinate::LONGEST_SIDE;
+use coordinate::is_legal_side;
+use coordinate::is_placed;
 use image::CellKind;
 use image::Seen;
 use interval::Interval;
@@ -15,20 +15,12 @@ use queue::DirectionAt;
 use queue::direction_at;
 use queue::direction_count;
 use queue::whole_line;
-use refusal::Whether;
 
 // Whether the sides and the variable set are ones that a setup takes.
 pub fn is_legal_chosen(p: Chosen) -> bool
     ensures { λ r. ⌜ r ≡ legalChosen p ⌝ }
 {
     is_legal_side(p.width) & is_legal_side(p.height) & (p.set <= 63)
-}
-
-// Whether a side is one that a setup takes.
-pub fn is_legal_side(side: u32) -> bool
-    ensures { λ r. ⌜ r ≡ legalSide side ⌝ }
-{
-    (1 <= side) & (side <= LONGEST_SIDE)
 }
 
 // Whether a block taken from a queue is one that a step can go on with.
@@ -42,17 +34,6 @@ pub(crate) fn is_undamaged(p: Chosen, b: Block) -> bool
         & is_placed(y, p.height)
         & is_directed(p, b)
         & has_legal_parameters(b)
-}
-
-// Whether a coordinate is in the ranges and begins inside its side.
-pub(crate) fn is_placed(c: Coordinate, side: u32) -> bool
-    ensures { λ r. ⌜ r ≡ placeRight side c ⌝ }
-{
-    match coordinate::is_inside(c, side) {
-        Whether::Yes => true,
-        Whether::No => false,
-        Whether::Refused(_) => false,
-    }
 }
 
 // Whether the direction byte names a direction in use that the block can be cut along, or is 0 where there are none.

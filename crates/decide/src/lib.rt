@@ -9,9 +9,9 @@ mod verdict;
 
 pub use children::Children;
 pub use children::children_of;
+pub use coordinate::is_legal_side;
 pub use damage::has_damaged_cell;
 pub use damage::is_legal_chosen;
-pub use damage::is_legal_side;
 pub use turn::Found;
 pub use turn::Turned;
 pub use turn::start_of;

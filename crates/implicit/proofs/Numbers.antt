@@ -2,7 +2,7 @@
 -- that an entry's contract names: that of the first row that applies, in the order of the paragraph below the table, and 0 where none does.
 -- Assumes nothing.
 use mathlib.Core.Path.{_≡_, refl, ap}
-use mathlib.Core.Bool.{Bool, true, false, cond, not, _&&_, _||_}
+use mathlib.Core.Bool.{Bool, true, false, not, _&&_, _||_}
 use mathlib.Core.List.{List, [], _∷_}
 use Prim.Native.Nat.{ℕ, zero, suc, _+_, _^_, _≤_}
 use native.Mathlib.Omega.{arith}
@@ -12,6 +12,8 @@ use borrow.Author.Tests.{leb-true, leb-false, lt-ltb, le-ltb, ne-eqb}
 use Rattle.refusal.specs.declared.Refusal.{Refusal}
 use Rattle.refusal.specs.declared.Refusal.the-variants as R
 use Rattle.refusal.specs.Number.{number}
+unfoldable pub use Rattle.refusal.specs.Number.{firstOf}
+use Rattle.refusal.proofs.Rows.{row, none, one-fails}
 use Rattle.image.specs.Cell.{isDamaged}
 use Rattle.image.specs.Painting.{someOf}
 use Rattle.queue.specs.declared.Taken.{Taken}
@@ -41,25 +43,9 @@ use Rattle.implicit.specs.Answers.{setupNumber, setupState, neededNumber
 use Rattle.implicit.proofs.RecordLaws.{waiting-by-count}
 use Rattle.implicit.proofs.RoomLaws.{least-exactly}
 
--- the number of the first row that applies
-unfoldable pub firstOf : List (ℕ × Bool) → ℕ
-firstOf [] = 0
-firstOf ((k, applies) ∷ rows) = cond applies k (firstOf rows)
-
 -- LAWS OF ROWS
 
--- a test that fails is a row that applies; the rows behind it count only where the test passes
-row : {A : Type 0} (f : A → ℕ) (pass : Bool) (refusal : A) (applies : Bool) (rest : A) (rows : List (ℕ × Bool)) → applies ≡ not pass
-    → (pass ≡ true → f rest ≡ firstOf rows) → f (cond pass rest refusal) ≡ firstOf ((f refusal, applies) ∷ rows)
-unfolding firstOf
-row f true refusal applies rest rows e h = rw e (h refl)
-row f false refusal applies rest rows e h = rw e
-
--- no row, and a single one that applies
-none : 0 ≡ firstOf []
-unfolding firstOf
-none = refl
-
+-- a single row that applies
 unread : 8 ≡ firstOf ((8, true) ∷ [])
 unfolding firstOf
 unread = refl
@@ -71,11 +57,6 @@ fewer m n = go (leb m n) refl
     go : (k : Bool) → leb m n ≡ k → ltb n m ≡ not k
     go true e = le-ltb n m (leb-true m n e)
     go false e = lt-ltb n m (leb-false m n e)
-
--- one of two fails
-one-fails : (a b : Bool) → not a || not b ≡ not (a && b)
-one-fails true b = refl
-one-fails false b = refl
 
 -- no byte, or fewer than are used
 no-room : (n used : ℕ) → eqb n 0 || ltb n used ≡ not (ltb 0 n && leb used n)
@@ -108,6 +89,8 @@ never-zero R.HeadZero e = omega arith
 never-zero R.Picture e = omega arith
 never-zero R.Empty e = omega arith
 never-zero R.Sheet e = omega arith
+never-zero R.Bounds e = omega arith
+never-zero R.Padding e = omega arith
 
 -- setup
 pub setup-number : (p : Chosen) (r : Ranges) (len count : ℕ)

@@ -1,9 +1,9 @@
 -- Document 01, the list of what damages a record, each clause as the test that an undamaged one passes; and what a record says of its pixels.
--- First the form in which the pages of the entries write their refusals.
-use mathlib.Core.Bool.{Bool, true, false, cond, _&&_, Bool·beq}
+use mathlib.Core.Bool.{Bool, true, false, _&&_, Bool·beq}
 use Prim.Native.Nat.{ℕ, _*_, _^_}
 use lib.Dec.{leb, ltb, eqb}
 use mathlib.Core.List.{List}
+pub use Rattle.refusal.specs.Number.{refusedUnless}
 use Rattle.interval.specs.Bounds.{legalInterval, putInterval}
 use Rattle.image.specs.Cell.{Cell, meanings}
 use Rattle.image.specs.Range.{wholePicture}
@@ -12,10 +12,6 @@ use Rattle.queue.specs.declared.Last.{Last}
 use Rattle.decide.specs.declared.Chosen.{Chosen}
 use Rattle.decide.specs.Damage.{legalChosen}
 use Rattle.implicit.specs.declared.state.State.{State}
-
--- this refusal, unless the test passes, and then the rest: the refusals of an entry read from the top, in the document's order
-abbrev pub refusedUnless : {A : Type 0} → A → Bool → A → A
-refusedUnless refusal test rest = cond test rest refusal
 
 -- how many pixels the picture has
 abbrev pub pixelCount : Chosen → ℕ

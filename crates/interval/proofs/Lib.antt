@@ -17,6 +17,8 @@ pub mod Patterns
 pub mod TopBits
 pub mod FractionInside
 pub mod BoundBits
+pub mod NextBelow
+pub mod Beside
 -- intervals, their kinds and their cut points
 pub mod Legality
 pub mod Sameness

@@ -7,6 +7,10 @@ use lib.IntN.{ℤ, pos, negℤ, natAbs}
 use lib.Ieee.{Float, nan, inf, fin, binary64, up, down, le, lt, eq, fits}
 use Rattle.interval.specs.declared.Interval.{Interval}
 
+-- from minus infinity to infinity
+abbrev pub wholeLine : Interval
+wholeLine = record { lower = inf true; upper = inf false }
+
 -- both bounds are values of binary64, as all are that code holds
 abbrev pub InFormat : Interval → Type 0
 InFormat x = T (fits binary64 (x .lower)) × T (fits binary64 (x .upper))

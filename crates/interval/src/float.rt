@@ -1,4 +1,4 @@
-// What the crate needs of single f64s: the tests, the put zeros, half of a sum, and rounding to whole.
+// What the crates need of single f64s: the tests, the neighbours, the put zeros, half of a sum, and rounding to whole.
 // None of it is built in: there is no literal for infinity, and a cast from a float must lose nothing.
 ghost use mathlib.Core.Path.{_≡_};
 ghost use mathlib.Core.Bool.{true, false, _&&_};
@@ -8,6 +8,7 @@ ghost use lib.Ieee.{inf, fin, binary64, lt, nanBits};
 ghost use lib.Ieee.Scale.{finite};
 ghost use Rattle.interval.specs.Bounds.{plusZero, minusZero, wholeBound};
 ghost use Rattle.interval.specs.Middle.{halfSum, wholeNear, wholeIf};
+ghost use Rattle.interval.specs.Next.{nextBelow, nextAbove};
 
 // Plus infinity.
 pub(crate) fn infinity() -> f64
@@ -17,10 +18,33 @@ pub(crate) fn infinity() -> f64
 }
 
 // Whether x is a number: no infinity and no NaN.
-pub(crate) fn is_finite(x: f64) -> bool
+pub fn is_finite(x: f64) -> bool
     ensures { λ r. ⌜ r ≡ finite x ⌝ }
 {
     (-infinity() < x) & (x < infinity())
+}
+
+// The next number below a finite x; what is not finite stays as it is.
+pub fn next_below(x: f64) -> f64
+    ensures { λ r. ⌜ r ≡ nextBelow x ⌝ }
+{
+    if !is_finite(x) {
+        return x;
+    }
+    if x > 0.0 {
+        f64::from_bits(f64::to_bits(x) - 1)
+    } else if x < 0.0 {
+        f64::from_bits(f64::to_bits(x) + 1)
+    } else {
+        f64::from_bits(0x8000_0000_0000_0001)
+    }
+}
+
+// The next number above a finite x: the mirror image.
+pub fn next_above(x: f64) -> f64
+    ensures { λ r. ⌜ r ≡ nextAbove x ⌝ }
+{
+    -next_below(-x)
 }
 
 // Whether 64 bits are a NaN's, to be asked before they are read as an f64.

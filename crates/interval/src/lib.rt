@@ -6,7 +6,7 @@ ghost use mathlib.Core.Path.{_≡_};
 ghost use mathlib.Core.Bool.{false};
 ghost use lib.Ieee.{binary64, ofBits, toBits};
 ghost use Rattle.interval.specs.Answers.{pointAnswer, whetherAt, piecesAt, fromBits};
-ghost use Rattle.interval.specs.Bounds.{legalInterval, putInterval, sameInterval};
+ghost use Rattle.interval.specs.Bounds.{wholeLine, legalInterval, putInterval, sameInterval};
 ghost use Rattle.interval.specs.Cuts.{subdivisible, firstCut, laterCut};
 ghost use Rattle.interval.specs.Fraction.{simpleFraction};
 ghost use Rattle.interval.specs.Kinds.{midpointOf, cutPointOf};
@@ -22,6 +22,10 @@ mod cut;
 mod float;
 mod fraction;
 mod kind;
+
+pub use float::is_finite;
+pub use float::next_above;
+pub use float::next_below;
 
 // The bounds of an interval.
 #[repr(C)]
@@ -48,6 +52,16 @@ pub enum PiecesAnswer {
 pub enum BitsAnswer {
     Bounds(Interval),
     Refused(Refusal),
+}
+
+// The whole line.
+pub fn whole_line() -> Interval
+    ensures { λ r. ⌜ r ≡ wholeLine ⌝ }
+{
+    Interval {
+        lower: -1.0 / 0.0,
+        upper: 1.0 / 0.0,
+    }
 }
 
 // Whether a pair of bounds is an interval, and one of an integer parameter where `integer` is set.

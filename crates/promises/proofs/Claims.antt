@@ -4,7 +4,7 @@
 use mathlib.Core.Path.{_≡_, refl, sym, ap, subst}
 use mathlib.Core.Logic.{_⊎_, inl, inr}
 use mathlib.Core.Bool.{Bool, true, false, not, _&&_, false≢true}
-use mathlib.Core.List.{List, [], _∷_}
+use mathlib.Core.List.{[], _∷_}
 use Prim.Native.Nat.{ℕ, zero, suc, _<_}
 use native.Mathlib.Nat.{le-refl}
 use native.Mathlib.Omega.{arith}
@@ -13,7 +13,6 @@ use lib.Dec.{T, eqb, lit<, lit≤}
 use lib.Ieee.{fin, le}
 use lib.IntN.{ℤ, pos}
 use lib.ListN.{length}
-use lib.Signed.{leZ-yes}
 use Rattle.small.specs.Small.{readBehind, readSmall}
 use Rattle.base.specs.Bytes.{littleEndian, ofLittleEndian}
 use Rattle.base.specs.Event.{queuedBy}
@@ -25,6 +24,7 @@ use Rattle.image.specs.declared.Reading.the-variants as R
 use Rattle.image.specs.Cell.{byteOf, cellCode, meaningOf, doneTo, reading, isMarked}
 use Rattle.image.specs.Range.{holdsCell, rectangleOf}
 use Rattle.image.specs.Painting.{painted, heldCells, everyOf}
+use Rattle.boxes.specs.Ratios.{ofUnits}
 use Rattle.queue.specs.declared.Block.{Block}
 use Rattle.queue.specs.declared.directions.Direction.{Direction}
 use Rattle.queue.specs.declared.directions.Direction.the-variants as D
@@ -51,7 +51,7 @@ use Rattle.promises.specs.Steps.{no-steps, readsIn, NoneQueuedCovers, Gi
 use Rattle.promises.specs.Judgements.{EveryAnswer}
 use Rattle.promises.specs.Mixes.{Mix, wholeOf, endBy, integers, LiesIn, HeldIn, questionOf}
 use Rattle.promises.specs.Sentences.{FalseRule, FalseStays, LeavesAfter, PixelBound, WhiteMeansNo}
-use Rattle.promises.proofs.MixesExact.{NotOver, ratioOf, exactly}
+use Rattle.promises.proofs.MixesExact.{exactly}
 use Rattle.promises.proofs.ExampleSteps.{two, after, ran, ran-on, last-step, left, right, one, waits, given-up, gave-up, only}
 
 -- the statement that s proves
@@ -220,7 +220,7 @@ corner = record {
   m = pos 0;
   n = pos 0;
   theta = pos 0;
-  t = ratioOf (pos 0);
+  t = ofUnits (pos 0);
 }
 
 -- where every mix solves, the corner does, and it lies in the left pixel, which reads Uncertain at first
@@ -305,14 +305,14 @@ unfolding Owes OverEnd UnderEnd wholeOf endBy
 not-zero = neither (λ e. (let f = ap (λ (v : Span ℤ). v .upper) e in let z : _≡_ {A = ℕ} 0 1 = cc in absurd (omega arith))) (λ l. l .lt)
 
 pub apart-by-each : (¬ Holds D.M three) × (¬ Holds D.N three) × (¬ Holds D.Theta three) × (¬ Holds D.T three)
-unfolding HeldIn corner InSpan FromEnd UpToEnd NotOver ratioOf endBy inUnits
-apart-by-each = ((λ h. not-zero (h .1 .0)), (λ h. not-zero (h .1 .1)), (λ h. not-zero (h .1 .2)), (λ h. h .1 .3 .0 .le))
+unfolding HeldIn corner InSpan FromEnd UpToEnd endBy inUnits
+apart-by-each = ((λ h. not-zero (h .1 .0)), (λ h. not-zero (h .1 .1)), (λ h. not-zero (h .1 .2)), (λ h. h .1 .3 .0))
 
 pub held-by-each : Holds D.M (zeroTo 0) × Holds D.N (zeroTo 0) × Holds D.Theta (zeroTo 0) × Holds D.T (zeroTo 0)
-unfolding HeldIn Owes OverEnd UnderEnd wholeOf corner InSpan FromEnd UpToEnd NotOver ratioOf endBy inUnits LiesBetween AtMost exactEdge
+unfolding HeldIn Owes OverEnd UnderEnd wholeOf corner InSpan FromEnd UpToEnd endBy inUnits LiesBetween AtMost exactEdge
 held-by-each = (
   (((omega arith, omega arith), (omega arith, omega arith)), (inl refl, inr (tt, tt), inr (tt, tt), (tt, tt))),
   (((omega arith, omega arith), (omega arith, omega arith)), (inr (tt, tt), inl refl, inr (tt, tt), (tt, tt))),
   (((omega arith, omega arith), (omega arith, omega arith)), (inr (tt, tt), inr (tt, tt), inl refl, (tt, tt))),
-  (((omega arith, omega arith), (omega arith, omega arith)), (inr (tt, tt), inr (tt, tt), inr (tt, tt), (leZ-yes tt, leZ-yes tt))),
+  (((omega arith, omega arith), (omega arith, omega arith)), (inr (tt, tt), inr (tt, tt), inr (tt, tt), (tt, tt))),
 )

@@ -43,11 +43,13 @@ pub mod CutIntegers
 pub mod MixesSplit
 pub mod MixesFirst
 pub mod MixesExact
+pub mod ByBoxes
 pub mod ColoursHold
 pub mod Greys
 pub mod Screen
 -- closed instances. Claims stands before the laws in the alphabet, so it is checked before them, and a sentence that became false is refused there first
 pub mod Claims
+pub mod ClaimsBoxes
 pub mod ClaimsRoom
 pub mod ClaimsShare
 pub mod ExampleSteps
@@ -55,3 +57,4 @@ pub mod ExampleRoom
 pub mod Example
 pub mod RoomExample
 pub mod ColoursExample
+pub mod BoxesExample

@@ -1,38 +1,12 @@
 -- Measures there are: exact ones, with fractions of a pixel for positions and ratios for reals; and any edges, exact or rounded, that neighbours share,
 -- as an evaluator has whose regions are clipped to the picture and whose inner edges are computed once for both sides. Assumes nothing.
-use mathlib.Core.Logic.{_⊎_, inl, inr, ⊎-elim}
-use Prim.Native.Nat.{ℕ, zero, _^_, _<_}
-use lib.Pow.{pow-pos}
-use lib.IntN.{ℤ, pos, _*ℤ_}
-use lib.Signed.{ltZ, _≤ℤ_, _<ℤ_, ltZ-yes, ltZ-no, ≤ℤ-refl, <ℤ-irrefl}
-use Rattle.base.proofs.Test.{¬T→≡}
+use Prim.Native.Nat.{ℕ}
+use lib.IntN.{pos, _*ℤ_}
 use Rattle.theory.specs.Positions.{LiesBetween, SharedEdges, Fraction, LiesExactly}
-use Rattle.theory.proofs.IntegerLaws.{compare, less-trans}
 use Rattle.theory.proofs.Theorems.{shared-edges-rule, fractions-rule}
+use Rattle.boxes.specs.Ratios.{Ratio, _⊑_, ofUnits}
+use Rattle.boxes.proofs.Integers.{leZ-total}
 use Rattle.promises.specs.Mixes.{Measures}
-
--- num / den
-pub record Ratio : Type 0 where
-  pub num : ℤ
-  pub den : ℕ
-  pub den-pos : zero < den
-
-unfoldable pub NotOver : Ratio → Ratio → Type 0
-NotOver a b = (a .num *ℤ pos (b .den)) ≤ℤ (b .num *ℤ pos (a .den))
-
-less-not-over : (a b : ℤ) → a <ℤ b → a ≤ℤ b
-less-not-over a b l = ltZ-no (rw (¬T→≡ (ltZ b a) (λ t. <ℤ-irrefl (less-trans l (ltZ-yes t)))) tt)
-
-ordered : (a b : ℤ) → (a ≤ℤ b) ⊎ (b ≤ℤ a)
-ordered a b = ⊎-elim (λ l. inl (less-not-over a b l)) (⊎-elim (λ e. inl (rw e (≤ℤ-refl b))) (λ l. inr (less-not-over b a l))) (compare a b)
-
-pub ratios-ordered : (a b : Ratio) → NotOver a b ⊎ NotOver b a
-unfolding NotOver
-ratios-ordered a b = ordered (a .num *ℤ pos (b .den)) (b .num *ℤ pos (a .den))
-
--- so many units of 2 ^ -1074
-unfoldable pub ratioOf : ℤ → Ratio
-ratioOf z = record { num = z; den = 2 ^ 1074; den-pos = pow-pos 1074 }
 
 -- exact positions and exact reals
 abbrev pub exactly : Measures
@@ -45,9 +19,9 @@ exactly =
       ruler-x = fractions-rule 48;
       ruler-y = fractions-rule 48;
       Real = Ratio;
-      AtMost = NotOver;
-      in-order = ratios-ordered;
-      ofUnits = ratioOf;
+      AtMost = _⊑_;
+      in-order = λ a b. leZ-total (a .num *ℤ pos (b .den)) (b .num *ℤ pos (a .den));
+      ofUnits = ofUnits;
     }
 
 -- positions between shared edges, and the reals of any measures

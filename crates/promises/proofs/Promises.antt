@@ -1,5 +1,5 @@
 -- WHAT IS PROMISED of the engine. Each promise stands under its sentence; each proof is one line that names the law. To judge the promises one reads this
--- page, documents 01 and 02 and these definitions: specs/ of this crate (Chart, Steps, Calls, Judgements, Mixes, Sentences, EnoughRoom, Alike); specs/ of
+-- page, documents 01 and 02 and these definitions: specs/ of this crate (Chart, Steps, Calls, Judgements, Mixes, ByBoxes, Sentences, EnoughRoom, Alike); specs/ of
 -- `implicit` and of the crates under it, which its contracts cite; and of `theory` specs/ Demand3, Levels, Shapes, Colours, Positions and Cuts, as far
 -- as these name it. No proof file.
 --
@@ -22,6 +22,8 @@ use Rattle.image.specs.Cell.{byteOf}
 use Rattle.image.specs.Range.{cellIndex}
 use Rattle.theory.specs.Levels.{NeverRise, OnTwoLevels, sumTo, placesAlong}
 use Rattle.theory.specs.Colours.{Question, HasSolution, FalseRight, MarkRight, DecidedBelow}
+use Rattle.boxes.specs.declared.Plot.{Plot}
+use Rattle.boxes.specs.Ratios.{Ratio}
 use Rattle.queue.specs.declared.Block.{Block}
 use Rattle.decide.specs.declared.Chosen.{Chosen}
 use Rattle.implicit.specs.declared.state.Ranges.{Ranges}
@@ -56,9 +58,12 @@ use Rattle.promises.specs.Steps.{PlaneOnly, LegalVerdicts, WrongCount, S
 use Rattle.promises.specs.Calls.{askedBy, ranTo}
 use Rattle.promises.specs.Judgements.{EveryAnswer}
 use Rattle.promises.specs.Mixes.{Measures, Mix, questionOf}
+use Rattle.promises.specs.ByBoxes.{ExactPositions, PlotStands, PlotOf, SolvesWhereItStands, JudgedByBox}
 use Rattle.promises.specs.Sentences.{FalseRule, FalseStays, LeavesAfter, PixelBound, ShareWhole, WhiteMeansNo}
 use Rattle.promises.specs.EnoughRoom.{NeverSix, RunsPastSix}
 use Rattle.promises.specs.Alike.{onRing, RingsAlike, StepsAlike}
+use Rattle.promises.proofs.MixesExact.{exactly}
+use Rattle.promises.proofs.ByBoxes.{boxes-right, exactly-placed}
 use Rattle.promises.proofs.Linked.{begun-reached, steps-reached, reached-by}
 use Rattle.promises.proofs.Demand3.{false-exactly, false-kept, left-behind, steps-taken, waiting, up-now}
 use Rattle.promises.proofs.PlaneBounds.{pixels-bound, levels-fall, levels-bound, empties}
@@ -365,6 +370,21 @@ module _ (M : Measures) (Solves : Mix M → Type 0) (a : Asked) {w₀ : World} (
       → out′ ≡ ifDone d (pictureLeft (e .world .state) (e .world .cells) out) out
       → (q : Pixel (a .chosen)) → getD out′ (cellIndex (a .chosen .width) (a .chosen .height) (q .x) (q .y)) 0 ≡ 0 → ¬ HasSolution Q q
   white-after-run budget tape e h = white-on-screen (run-reaches budget w₀ tape e h .0)
+
+-- Document 02, (ii), what boxes are for: the relation speaks of coordinates, and the plot's edges stand anywhere in their intervals, left not right of right and
+-- bottom not above top. If every `false` verdict was said of a block that has a box with no solution within its outermost ends, a pixel that reads False holds none
+module _ (M : Measures) (E : ExactPositions M) (plot : Plot) (s : PlotStands plot) (Relation : (u v : Ratio) → Mix M → Type 0)
+    (a : Asked) {w₀ : World} (z : BegunAs a w₀) where
+  abbrev Standing : Mix M → Type 0
+  Standing = SolvesWhereItStands M plot Relation E s
+
+  pub white-by-boxes : PlotOf plot (a .chosen) → (n : ℕ) (w : World) (r : Steps n w₀ w) → EveryAnswer (a .chosen) (JudgedByBox M plot Relation) r
+      → (q : Pixel (a .chosen)) → readsIn (a .chosen) w q ≡ Reads.False → ¬ HasSolution (questionOf M (a .chosen) (a .ranges) Standing) q
+  white-by-boxes same n w r h = white-none M Standing a z n w r (boxes-right M plot Relation E s (a .chosen) (a .ranges) same r h)
+
+-- such positions there are: fractions of a pixel
+pub fractions-placed : ExactPositions exactly
+fractions-placed = exactly-placed
 
 -- two charts laid over each other: where one of them is white, no mix solves both, of the mixes of the pixel that both are given
 module _ (M : Measures) (Solves Other : Mix M → Type 0) (a : Asked) {w₀ : World} (z : BegunAs a w₀) (b : Asked) {v₀ : World} (y : BegunAs b v₀) where

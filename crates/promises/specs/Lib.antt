@@ -4,6 +4,7 @@ pub mod Steps
 pub mod Calls
 pub mod Judgements
 pub mod Mixes
+pub mod ByBoxes
 pub mod Sentences
 pub mod EnoughRoom
 pub mod Alike

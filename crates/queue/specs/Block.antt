@@ -2,18 +2,14 @@
 -- values) and "Intervals and their cutting" (how zeros are put). Our choice: an unused parameter is the whole line.
 use mathlib.Core.Bool.{Bool, true, false, cond}
 use Prim.Native.Nat.{ℕ}
-use lib.Ieee.{inf}
 use Rattle.interval.specs.declared.Interval.{Interval}
 use Rattle.interval.specs.Bounds.{putInterval}
+pub use Rattle.interval.specs.Bounds.{wholeLine}
 use Rattle.queue.specs.declared.Block.{Block}
 use Rattle.queue.specs.declared.Last.{Last}
 use Rattle.queue.specs.declared.directions.Direction.{Direction}
 use Rattle.queue.specs.declared.directions.Direction.the-variants as D
 use Rattle.queue.specs.Directions.{inUse}
-
--- from minus infinity to infinity
-abbrev pub wholeLine : Interval
-wholeLine = record { lower = inf true; upper = inf false }
 
 -- m, n and n_theta are integer parameters, t is a real one
 abbrev pub isInteger : Direction → Bool

@@ -1,23 +1,14 @@
 // A block's parameters by direction, the block as the queue keeps it, and what is remembered of it.
 ghost use mathlib.Core.Path.{_≡_};
 ghost use Rattle.queue.specs.Directions.{inUse};
-ghost use Rattle.queue.specs.Block.{wholeLine, isInteger, parameterOf, withParameter, recalled, asQueued};
+ghost use Rattle.queue.specs.Block.{isInteger, parameterOf, withParameter, recalled, asQueued};
 ghost use Rattle.queue.specs.Block.{asQueuedAt, remembered, startingLast};
 use super::Block;
 use super::Last;
 use super::directions::Direction;
 use super::directions::is_used;
 use interval::Interval;
-
-// The whole line.
-pub fn whole_line() -> Interval
-    ensures { λ r. ⌜ r ≡ wholeLine ⌝ }
-{
-    Interval {
-        lower: -1.0 / 0.0,
-        upper: 1.0 / 0.0,
-    }
-}
+use interval::whole_line;
 
 // Whether a direction is an integer parameter.
 pub fn is_integer(d: Direction) -> bool

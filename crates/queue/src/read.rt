@@ -15,13 +15,13 @@ use super::Last;
 use super::directions::Direction;
 use super::directions::is_used;
 use super::kept::is_integer;
-use super::kept::whole_line;
 use super::ring::byte_at;
 use super::ring::part;
 use coordinate::Coordinate;
 use coordinate::PIXEL_RANK;
 use interval::BitsAnswer;
 use interval::Interval;
+use interval::whole_line;
 use small::ReadAnswer;
 
 // A level's rank.

@@ -1,5 +1,6 @@
--- Document 01, "Numbers of refusal": the number of each refusal, and of an answer that says yes or no.
-use mathlib.Core.Bool.{Bool, true, false}
+-- Document 01, "Numbers of refusal", and those that document 02's requests add: the number of each refusal, and of an answer that says yes or no.
+use mathlib.Core.Bool.{Bool, true, false, cond}
+use mathlib.Core.List.{List, [], _∷_}
 use Prim.Native.Nat.{ℕ}
 use Rattle.refusal.specs.declared.Refusal.{Refusal}
 use Rattle.refusal.specs.declared.Refusal.the-variants as R
@@ -22,6 +23,17 @@ number R.HeadZero = 11
 number R.Picture = 12
 number R.Empty = 13
 number R.Sheet = 14
+number R.Bounds = 15
+number R.Padding = 16
+
+-- this refusal, unless the test passes, and then the rest: the refusals of an entry read from the top, in the document's order
+abbrev pub refusedUnless : {A : Type 0} → A → Bool → A → A
+refusedUnless refusal test rest = cond test rest refusal
+
+-- the same by rows, for the pages that tell an entry's numbers: the number of the first row that applies
+unfoldable pub firstOf : List (ℕ × Bool) → ℕ
+firstOf [] = 0
+firstOf ((k, applies) ∷ rows) = cond applies k (firstOf rows)
 
 -- yes or no, by a test
 abbrev pub answered : Bool → Whether

@@ -1,4 +1,4 @@
-// The refusals of document 01's table, one case a number, and the answers that only say yes or no.
+// The refusals of document 01's table and of document 02's requests, one case a number, and the answers that only say yes or no.
 ghost use mathlib.Core.Path.{_≡_};
 ghost use Rattle.refusal.specs.Number.{number};
 
@@ -32,6 +32,10 @@ pub enum Refusal {
     Empty,
     // 14: a sheet that the program does not take.
     Sheet,
+    // 15: a box's bound is not finite, or its ends cross.
+    Bounds,
+    // 16: padding leaves no width or height.
+    Padding,
 }
 
 // The number of a refusal.
@@ -53,6 +57,8 @@ pub fn number_of(r: Refusal) -> u8
         Refusal::Picture => 12,
         Refusal::Empty => 13,
         Refusal::Sheet => 14,
+        Refusal::Bounds => 15,
+        Refusal::Padding => 16,
     }
 }
 

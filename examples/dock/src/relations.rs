@@ -18,10 +18,20 @@ pub enum Asked {
     Zero,
 }
 
+/// How a block's edges become trailers and people.
+#[derive(Clone, Copy, PartialEq)]
+pub enum Edged {
+    /// By the library's boxes, rounded outward.
+    ByBoxes,
+    /// Without any rounding: the relation's thresholds lie on the edges of pixels, which no box settles.
+    Exactly,
+}
+
 pub struct Relation {
     pub name: &'static str,
     pub title: &'static str,
     pub asked: Asked,
+    pub edged: Edged,
     /// The integer parameter's range, where there is one.
     pub doors: Option<(i32, i32)>,
     /// The expression over a box of a, c and the parameter.
@@ -57,6 +67,7 @@ pub const RELATIONS: [Relation; 3] = [
         name: "throughput",
         title: "the crew clears what arrives",
         asked: Asked::AtLeastZero,
+        edged: Edged::ByBoxes,
         doors: None,
         value: |a, c, _| {
             let clears = c * (Bounds::ratio(5, 2) - c * Bounds::ratio(1, 40));
@@ -72,6 +83,7 @@ pub const RELATIONS: [Relation; 3] = [
         name: "doors",
         title: "some number of doors, 1 to 6, serves the hour",
         asked: Asked::AtLeastZero,
+        edged: Edged::Exactly,
         doors: Some((1, 6)),
         value: |a, c, m| {
             let spare = c - m * Bounds::point(4.0);
@@ -92,6 +104,7 @@ pub const RELATIONS: [Relation; 3] = [
         name: "balance",
         title: "arrivals times (crew + 8) is 480 exactly",
         asked: Asked::Zero,
+        edged: Edged::Exactly,
         doors: None,
         value: |a, c, _| a * (c + Bounds::point(8.0)) - Bounds::point(480.0),
         exact: |a, c, _| a * (c + Fraction::new(8, 1)) - Fraction::new(480, 1),

@@ -54,6 +54,31 @@ impl Implicit {
     }
 }
 
+impl Implicit {
+    /// The same with another map from the picture's coordinates to real ones.
+    pub fn with_map(self, map: Transformation2D) -> Self {
+        Self { im_to_real: map, ..self }
+    }
+
+    /// A block's box, of which the evaluation of the block starts.
+    pub fn block_box(&self, b: &Block) -> Box2D {
+        if b.x.is_subpixel() {
+            self.region(b.x, b.y)
+        } else {
+            self.region_clipped(b.x, b.y)
+        }
+    }
+
+    /// What of the box an evaluation is given.
+    pub fn evaluated(&self, b: &Block) -> Region {
+        if b.x.is_subpixel() {
+            subpixel_outer(&self.block_box(b), b)
+        } else {
+            self.block_box(b).outer()
+        }
+    }
+}
+
 impl Clone for Implicit {
     fn clone(&self) -> Self {
         Self {

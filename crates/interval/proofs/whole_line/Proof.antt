@@ -1,8 +1,8 @@
 -- `whole_line` meets its contract: 1 / 0 and -1 / 0 are computed. Assumes nothing.
 use mathlib.Core.Path.{refl}
 use lib.Ieee.{div, ofBits, neg}
-use Rattle.queue.proofs.kept.whole_line.Statement.{statement}
-use Rattle.queue.proofs.kept.whole_line.Tie as tie
+use Rattle.interval.proofs.whole_line.Statement.{statement}
+use Rattle.interval.proofs.whole_line.Tie as tie
 
 returns : tie.Need-returns
 unfolding div ofBits neg
