@@ -2,4 +2,6 @@
 pub mod VerdictLaws
 pub mod DamageLaws
 pub mod ListingLaws
+pub mod ChildAtLaws
+pub mod ChildAtCode
 pub mod TurnLaws

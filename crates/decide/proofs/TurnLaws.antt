@@ -1,29 +1,29 @@
 -- Laws of the search for a direction. Assumes nothing.
 use mathlib.Core.Path.{_≡_, refl, sym, ap, _∙_}
-use mathlib.Core.Bool.{Bool, true, false, _&&_}
-use mathlib.Core.List.{List}
-use Prim.Native.Nat.{ℕ, suc, _+_, _-_, _%_, _≤_, _<_}
+use mathlib.Core.Bool.{Bool, true, false, cond, _&&_}
+use mathlib.Core.List.{List, [], _∷_}
+use Prim.Native.Nat.{ℕ, suc, _+_, _-_, _/_, _%_, _≤_, _<_}
 use native.Mathlib.Omega.{arith}
 use native.Mathlib.Nat.{mod-lt, mod-eq-of-lt, mod-eq-sub-mod, add-zero}
 use lib.ListN.{length}
-use borrow.Author.Tests.{le-leb, lt-leb}
+use borrow.Author.Tests.{le-leb, lt-leb, ne-eqb}
 use Rattle.refusal.specs.declared.Whether.{Whether}
+use Rattle.coordinate.specs.Axis.{ordinaryFloor, aboveFloor}
 use Rattle.interval.specs.declared.Interval.{Interval}
 use Rattle.interval.specs.Answers.{whetherAt}
 use Rattle.interval.specs.Bounds.{legalInterval, putInterval}
 use Rattle.interval.specs.Cuts.{subdivisible}
 use Rattle.queue.specs.declared.Block.{Block}
 use Rattle.queue.specs.declared.directions.Direction.{Direction}
+use Rattle.queue.specs.declared.directions.Direction.the-variants as D
 use Rattle.queue.specs.declared.directions.DirectionAt.{DirectionAt}
 use Rattle.queue.specs.declared.directions.DirectionAt.the-variants as A
-use Rattle.queue.specs.Directions.{directions, directionAt}
+use Rattle.queue.specs.Directions.{inUse, usedOf, directions, directionAt}
 use Rattle.decide.specs.declared.Chosen.{Chosen}
 use Rattle.decide.specs.declared.turn.Found.{Found}
 use Rattle.decide.specs.declared.turn.Found.the-variants as F
-use Rattle.decide.specs.declared.turn.Turned.{Turned}
-use Rattle.decide.specs.declared.turn.Turned.the-variants as T
 use Rattle.decide.specs.Damage.{directionOf}
-use Rattle.decide.specs.Turn.{incompleteLimit, startOf, splitsAt, subdivisibleAlong, searchedFrom, searched, turnedTo, turnedBy, turnedFound}
+use Rattle.decide.specs.Turn.{incompleteLimit, startOf, splitsAt, subdivisibleAlong, searchedFrom, searched}
 use Rattle.decide.proofs.DamageLaws.{isYes}
 
 -- BY THE TESTS THAT THE CODE MAKES
@@ -127,12 +127,42 @@ module _ (p : Chosen) (c : Block) (start n at : ℕ)
   pub first-not : subdivisibleAlong c (directionAt (directions (p .set)) at) ≡ false → foundAfter p c start n 1 ≡ searched p c start
   first-not = search-on p c start n 0 at same from-nought h (found-from p c start n same)
 
--- THE NEXT DIRECTION
+-- WHERE NO PARAMETER IS IN USE
 
-pub turns-to : (p : Chosen) (start d : ℕ) (c : Block) (f : Found)
-    → f ≡ searched p c start → f ≡ F.At d → T.To (turnedTo c d) ≡ turnedFound p start c
-turns-to p start d c f g h = ap (turnedBy c) (sym h ∙ g)
+no-parameters : (set : ℕ) → set % 16 ≡ 0 → directions set ≡ cond (inUse set D.XY) (D.XY ∷ []) []
+unfolding directions usedOf
+no-parameters set e =
+    let m = ne-eqb (set / 8 % 2) 1 (λ f. omega arith) in
+    let n = ne-eqb (set / 4 % 2) 1 (λ f. omega arith) in
+    let theta = ne-eqb (set / 2 % 2) 1 (λ f. omega arith) in
+    let t = ne-eqb (set % 2) 1 (λ f. omega arith) in
+    rw (m, n, theta, t)
 
-pub turns-nowhere : (p : Chosen) (start : ℕ) (c : Block) (f : Found)
-    → f ≡ searched p c start → f ≡ F.Nothing → T.Nowhere ≡ turnedFound p start c
-turns-nowhere p start c f g h = ap (turnedBy c) (sym h ∙ g)
+abbrev foundIf : Bool → Found
+foundIf t = cond t (F.At 0) F.Nothing
+
+xy-alone : (c : Block) (start : ℕ) → searchedFrom (D.XY ∷ []) c 1 start ≡ foundIf (aboveFloor ordinaryFloor (c .x .rank))
+unfolding searchedFrom directionAt
+xy-alone c start = let e : start % 1 ≡ 0 = omega arith in rw e
+
+xy-found : (p : Chosen) (c : Block) (start : ℕ) → p .set % 16 ≡ 0
+    → foundIf (aboveFloor ordinaryFloor (c .x .rank) && inUse (p .set) D.XY) ≡ searched p c start
+unfolding searchedFrom
+xy-found p c start e =
+    go (inUse (p .set) D.XY) (aboveFloor ordinaryFloor (c .x .rank)) refl
+    ∙ ap (λ (ds : List Direction). searchedFrom ds c (length ds) start) (sym (no-parameters (p .set) e))
+  where
+    go : (used up : Bool) → up ≡ aboveFloor ordinaryFloor (c .x .rank)
+        → foundIf (up && used) ≡ searchedFrom (cond used (D.XY ∷ []) []) c (length (cond used (D.XY ∷ []) [])) start
+    go true true h = ap foundIf h ∙ sym (xy-alone c start)
+    go true false h = ap foundIf h ∙ sym (xy-alone c start)
+    go false true h = refl
+    go false false h = refl
+
+pub find-xy : (p : Chosen) (c : Block) (start : ℕ) → p .set % 16 ≡ 0
+    → aboveFloor ordinaryFloor (c .x .rank) && inUse (p .set) D.XY ≡ true → F.At 0 ≡ searched p c start
+find-xy p c start e h = ap foundIf (sym h) ∙ xy-found p c start e
+
+pub find-nothing : (p : Chosen) (c : Block) (start : ℕ) → p .set % 16 ≡ 0
+    → aboveFloor ordinaryFloor (c .x .rank) && inUse (p .set) D.XY ≡ false → F.Nothing ≡ searched p c start
+find-nothing p c start e h = ap foundIf (sym h) ∙ xy-found p c start e

@@ -1,23 +1,46 @@
--- Only private contracts cite this page: the quarters as the code lists them, by the halves of x and y.
-use mathlib.Core.Bool.{Bool, cond, _&&_, _||_}
-use mathlib.Core.List.{List, [], _∷_}
+-- Only private contracts cite this page: how a block is cut, as the code counts its children, and rebuilt with other parameters.
+use mathlib.Core.Bool.{Bool, true, false, cond}
 use Prim.Native.Nat.{ℕ}
-use lib.Dec.{leb}
+use lib.ListN.{length}
 use Rattle.coordinate.specs.declared.Coordinate.{Coordinate}
-use Rattle.coordinate.specs.Axis.{inside}
+use Rattle.interval.specs.declared.Interval.{Interval}
+use Rattle.interval.specs.Bounds.{legalInterval, putInterval}
+use Rattle.interval.specs.Cuts.{laterCut}
 use Rattle.queue.specs.declared.Block.{Block}
-use Rattle.decide.specs.declared.children.Halves.{Halves}
-use Rattle.decide.specs.Children.{movedTo}
+use Rattle.queue.specs.declared.directions.Direction.{Direction}
+use Rattle.queue.specs.declared.directions.Direction.the-variants as D
+use Rattle.queue.specs.declared.directions.DirectionAt.the-variants as A
+use Rattle.decide.specs.declared.Chosen.{Chosen}
+use Rattle.decide.specs.declared.children.Cut.{Cut}
+use Rattle.decide.specs.ChildAt.{isKept, halfOf}
 
--- is a half listed, by the rank of its whole? From level 0 down any is, above only one that begins inside its side
-abbrev pub isKept : ℕ → Coordinate → ℕ → Bool
-isKept rank c side = leb rank 48 || inside side (c .rank) (c .index)
+-- is a direction the one that makes quarters?
+abbrev pub isQuartered : Direction → Bool
+isQuartered D.XY = true
+isQuartered D.M = false
+isQuartered D.N = false
+isQuartered D.Theta = false
+isQuartered D.T = false
 
-abbrev pub listedIf : Bool → Block → List Block → List Block
-listedIf t q l = cond t (q ∷ l) l
+-- the quarters, by which of the high halves are listed
+abbrev pub quarterCount : Bool → Bool → ℕ
+quarterCount right above = cond right (cond above 4 2) (cond above 2 1)
 
--- the first quarter, and those at the high halves as far as these are listed
-unfoldable pub quartersKept : Block → Halves → Halves → Bool → Bool → List Block
-quartersKept b x y right above =
-    movedTo b (x .low) (y .low) ∷ listedIf right (movedTo b (x .high) (y .low))
-    (listedIf above (movedTo b (x .low) (y .high)) (listedIf (right && above) (movedTo b (x .high) (y .high)) []))
+abbrev pub quartersCut : Chosen → Coordinate → Coordinate → Cut
+quartersCut p x y =
+    record {
+      along = A.Along D.XY;
+      right = isKept (x .rank) (halfOf x true) (p .width);
+      count = quarterCount (isKept (x .rank) (halfOf x true) (p .width)) (isKept (x .rank) (halfOf y true) (p .height));
+    }
+
+-- the pieces of a parameter's later cut; one that is not legal has none
+unfoldable pub laterCount : Interval → Bool → ℕ
+laterCount x integer = cond (legalInterval x integer) (length (laterCut (putInterval x) integer)) 0
+
+abbrev pub piecesCut : Direction → Interval → Bool → Cut
+piecesCut d x integer = record { along = A.Along d; right = false; count = laterCount x integer }
+
+-- the block with other parameters
+abbrev pub withParameters : Block → Interval → Interval → Interval → Interval → Block
+withParameters b m n theta t = record { x = b .x; y = b .y; m = m; n = n; theta = theta; t = t; dir = b .dir }

@@ -17,8 +17,6 @@ use Rattle.queue.specs.Directions.{directions, directionAt}
 use Rattle.decide.specs.declared.Chosen.{Chosen}
 use Rattle.decide.specs.declared.turn.Found.{Found}
 use Rattle.decide.specs.declared.turn.Found.the-variants as F
-use Rattle.decide.specs.declared.turn.Turned.{Turned}
-use Rattle.decide.specs.declared.turn.Turned.the-variants as T
 use Rattle.decide.specs.Damage.{directionOf}
 
 -- so many incomplete children are few, by the direction in which their parent was cut
@@ -61,9 +59,14 @@ searched p c at = searchedFrom (directions (p .set)) c (length (directions (p .s
 abbrev pub turnedTo : Block → ℕ → Block
 turnedTo c d = record { x = c .x; y = c .y; m = c .m; n = c .n; theta = c .theta; t = c .t; dir = d }
 
+-- an incomplete child with its next direction, or with none that it can be cut along
+pub data Turned : Type 0 where
+  To : Block → Turned
+  Nowhere : Turned
+
 abbrev pub turnedBy : Block → Found → Turned
-turnedBy c (F.At d) = T.To (turnedTo c d)
-turnedBy c F.Nothing = T.Nowhere
+turnedBy c (F.At d) = To (turnedTo c d)
+turnedBy c F.Nothing = Nowhere
 
 -- the child with the direction that a search from a place on finds
 abbrev pub turnedFound : Chosen → ℕ → Block → Turned

@@ -1,21 +1,24 @@
-// The children of a block, listed by the cut along its direction: both coordinates halved, or one parameter's later cut.
+// The children of a block: how it is cut along its direction, both coordinates halved or one parameter's later cut, and child j.
 ghost use mathlib.Core.Path.{_≡_};
-ghost use mathlib.Core.Bool.{true};
+ghost use mathlib.Core.Bool.{true, cond};
 ghost use mathlib.Core.List.{[], _∷_};
-ghost use Rattle.coordinate.specs.Axis.{ordinaryFloor, aboveFloor};
-ghost use Rattle.coordinate.specs.Lone.{legal, lowHalf, highHalf, halvesAsked};
-ghost use Rattle.interval.specs.Bounds.{legalInterval};
-ghost use Rattle.queue.specs.Block.{isInteger, parameterOf};
+ghost use lib.Dec.{ltb};
+ghost use lib.ListN.{getD};
+ghost use Rattle.coordinate.specs.Axis.{ordinaryFloor};
+ghost use Rattle.coordinate.specs.Lone.{legal};
+ghost use Rattle.queue.specs.Block.{withParameter};
 ghost use Rattle.decide.specs.Damage.{sound, directionOf};
-ghost use Rattle.decide.specs.Children.{movedTo, childrenXY, childrenCut, childrenAlong, childrenOf, listed};
-ghost use Rattle.decide.specs.ChildrenComputed.{isKept, quartersKept};
+ghost use Rattle.decide.specs.Children.{movedTo, childrenOf, listed};
+ghost use Rattle.decide.specs.ChildAt.{isKept, halfOf, quarterOf, placeOf, pieceOf, childOf, cutOf};
+ghost use Rattle.decide.specs.ChildrenComputed.{quarterCount, quartersCut, laterCount, piecesCut, isQuartered, withParameters};
 use super::Chosen;
 use super::damage::is_legal_chosen;
 use super::damage::is_undamaged;
 use coordinate::Coordinate;
-use coordinate::HalvesAnswer;
+use coordinate::INDEX_LIMIT;
 use coordinate::PIXEL_RANK;
 use coordinate::is_placed;
+use interval::Interval;
 use interval::PiecesAnswer;
 use queue::Block;
 use queue::Direction;
@@ -23,7 +26,6 @@ use queue::DirectionAt;
 use queue::direction_at;
 use queue::is_integer;
 use queue::parameter_of;
-use queue::with_parameter;
 
 // The children of a block, the first `count` of them; the places behind hold the block itself.
 #[repr(C)]
@@ -32,101 +34,279 @@ pub struct Children {
     pub count: usize,
 }
 
-// The halves of a coordinate.
-struct Halves {
-    low: Coordinate,
-    high: Coordinate,
+// How a block is cut: along its direction, with the quarters of the right half listed or not, and into how many children. A damaged block has none.
+pub struct Cut {
+    pub along: DirectionAt,
+    pub right: bool,
+    pub count: usize,
+}
+
+// Where a child lies.
+pub struct Place {
+    pub x: Coordinate,
+    pub y: Coordinate,
 }
 
 // The children of a block in order; a damaged block has none.
 pub fn children_of(p: Chosen, b: Block) -> Children
     ensures { λ r. ⌜ r ≡ listed b (childrenOf p b) ⌝ }
 {
-    if is_legal_chosen(p) & is_undamaged(p, b) {
-        return match direction_at(p.set, b.dir) {
-            DirectionAt::Along(d) => children_along(p, b, d),
-            DirectionAt::Beyond => list_one(b, b),
-        };
+    let k = cut_of(p, b);
+    Children {
+        at: [
+            listed_at(k, b, 0),
+            listed_at(k, b, 1),
+            listed_at(k, b, 2),
+            listed_at(k, b, 3),
+        ],
+        count: k.count,
     }
-    no_child(b)
 }
 
-// No child.
-fn no_child(b: Block) -> Children
-    ensures { λ r. ⌜ r ≡ listed b [] ⌝ }
+// What the listing has at a place: the child, or behind the children the block itself.
+fn listed_at(k: Cut, b: Block, j: usize) -> Block
+    ensures { λ r. ⌜ r ≡ cond (ltb j (k .count)) (childOf k b j) b ⌝ }
 {
-    Children {
-        at: [b, b, b, b],
+    if j < k.count {
+        return child_of(k, b, j);
+    }
+    b
+}
+
+// How a block is cut; a damaged one has no child.
+pub fn cut_of(p: Chosen, b: Block) -> Cut
+    ensures { λ r. ⌜ r ≡ cutOf p b ⌝ }
+{
+    let along = direction_at(p.set, b.dir);
+    if is_legal_chosen(p) & is_undamaged(p, b) {
+        return cut_along(p, b, along);
+    }
+    Cut {
+        along,
+        right: false,
         count: 0,
     }
 }
 
-// One child of a block.
-fn list_one(b: Block, c: Block) -> Children
-    ensures { λ r. ⌜ r ≡ listed b (c ∷ []) ⌝ }
+// The same of an undamaged block, by its direction.
+fn cut_along(p: Chosen, b: Block, along: DirectionAt) -> Cut
+    requires { ⌜ (sound p b ≡ true) × (along ≡ directionOf p b) ⌝ }
+    ensures { λ r. ⌜ r ≡ cutOf p b ⌝ }
 {
-    Children {
-        at: [c, b, b, b],
-        count: 1,
+    match along {
+        DirectionAt::Along(d) => match d {
+            Direction::XY => cut_quarters(p, b.x, b.y),
+            Direction::M => cut_parameter(d, b.m, true),
+            Direction::N => cut_parameter(d, b.n, true),
+            Direction::Theta => cut_parameter(d, b.theta, true),
+            Direction::T => cut_parameter(d, b.t, false),
+        },
+        DirectionAt::Beyond => Cut {
+            along: DirectionAt::Beyond,
+            right: false,
+            count: 1,
+        },
     }
 }
 
-// Two.
-fn list_two(b: Block, c: Block, d: Block) -> Children
-    ensures { λ r. ⌜ r ≡ listed b (c ∷ d ∷ []) ⌝ }
+// Into the quarters that are listed: the low halves begin where the block does, so the high ones decide.
+fn cut_quarters(p: Chosen, x: Coordinate, y: Coordinate) -> Cut
+    requires { ⌜ (legal ordinaryFloor (halfOf x true) ≡ true) × (legal ordinaryFloor (halfOf y true) ≡ true) ⌝ }
+    ensures { λ r. ⌜ r ≡ quartersCut p x y ⌝ }
 {
-    Children {
-        at: [c, d, b, b],
-        count: 2,
+    let right = is_kept(x.rank, half(x, true), p.width);
+    let above = is_kept(x.rank, half(y, true), p.height);
+    Cut {
+        along: DirectionAt::Along(Direction::XY),
+        right,
+        count: quarter_count(right, above),
     }
 }
 
-// Three.
-fn list_three(b: Block, c: Block, d: Block, e: Block) -> Children
-    ensures { λ r. ⌜ r ≡ listed b (c ∷ d ∷ e ∷ []) ⌝ }
+fn quarter_count(right: bool, above: bool) -> usize
+    ensures { λ r. ⌜ r ≡ quarterCount right above ⌝ }
 {
-    Children {
-        at: [c, d, e, b],
-        count: 3,
+    if right {
+        return if above { 4 } else { 2 };
+    }
+    if above { 2 } else { 1 }
+}
+
+// Into the pieces of a parameter's later cut.
+fn cut_parameter(d: Direction, x: Interval, integer: bool) -> Cut
+    ensures { λ r. ⌜ r ≡ piecesCut d x integer ⌝ }
+{
+    Cut {
+        along: DirectionAt::Along(d),
+        right: false,
+        count: piece_count(x, integer),
     }
 }
 
-// The children along a direction.
-fn children_along(p: Chosen, b: Block, d: Direction) -> Children
-    requires { ⌜ (sound p b ≡ true) × (directionOf p b ≡ DirectionAt.Along d) ⌝ }
-    ensures { λ r. ⌜ r ≡ listed b (childrenAlong p b (DirectionAt.Along d)) ⌝ }
+fn piece_count(x: Interval, integer: bool) -> usize
+    ensures { λ r. ⌜ r ≡ laterCount x integer ⌝ }
+{
+    match interval::later_cut(x, integer) {
+        PiecesAnswer::One(_) => 1,
+        PiecesAnswer::Two(_, _) => 2,
+        PiecesAnswer::Three(_, _, _) => 3,
+        PiecesAnswer::Refused(_) => 0,
+    }
+}
+
+// Child j of a block that is cut so; there need not be so many.
+pub fn child_of(k: Cut, b: Block, j: usize) -> Block
+    ensures { λ r. ⌜ r ≡ childOf k b j ⌝ }
+{
+    let along = k.along;
+    match along {
+        DirectionAt::Along(d) => if is_quartered(d) {
+            let at = quarter_of(k.right, b.x, b.y, j);
+            moved_to(b, at.x, at.y)
+        } else {
+            with_piece(b, d, piece_of(parameter_of(b, d), is_integer(d), j))
+        }
+        DirectionAt::Beyond => moved_to(b, b.x, b.y),
+    }
+}
+
+fn is_quartered(d: Direction) -> bool
+    ensures { λ r. ⌜ r ≡ isQuartered d ⌝ }
 {
     match d {
-        Direction::XY => children_xy(p, b),
-        Direction::M => children_cut(b, d),
-        Direction::N => children_cut(b, d),
-        Direction::Theta => children_cut(b, d),
-        Direction::T => children_cut(b, d),
+        Direction::XY => true,
+        Direction::M => false,
+        Direction::N => false,
+        Direction::Theta => false,
+        Direction::T => false,
     }
 }
 
-// The quarters in order.
-fn children_xy(p: Chosen, b: Block) -> Children
-    requires { ⌜ (sound p b ≡ true) × (aboveFloor ordinaryFloor (b .x .rank) ≡ true) ⌝ }
-    ensures { λ r. ⌜ r ≡ listed b (childrenXY p b) ⌝ }
+// Where child j lies.
+pub fn place_of(k: Cut, x: Coordinate, y: Coordinate, j: usize) -> Place
+    ensures { λ r. ⌜ r ≡ placeOf k x y j ⌝ }
 {
-    let parent = b.x;
-    let x = halves_of(parent);
-    let y = halves_of(b.y);
-    let right = is_kept(parent.rank, x.high, p.width);
-    let above = is_kept(parent.rank, y.high, p.height);
-    list_quarters(b, x, y, right, above)
+    let along = k.along;
+    match along {
+        DirectionAt::Along(d) => match d {
+            Direction::XY => quarter_of(k.right, x, y, j),
+            Direction::M => Place { x, y },
+            Direction::N => Place { x, y },
+            Direction::Theta => Place { x, y },
+            Direction::T => Place { x, y },
+        },
+        DirectionAt::Beyond => Place { x, y },
+    }
 }
 
-// Both halves of a coordinate that has them.
-fn halves_of(c: Coordinate) -> Halves
-    requires { ⌜ halvesAsked ordinaryFloor c ≡ HalvesAnswer.Halves (lowHalf c) (highHalf c) ⌝ }
-    ensures { λ r. ⌜ (r .low ≡ lowHalf c) × (r .high ≡ highHalf c) ⌝ }
+// Quarter j of those that are listed, x moving first; without the right half only y moves.
+fn quarter_of(right: bool, x: Coordinate, y: Coordinate, j: usize) -> Place
+    ensures { λ r. ⌜ r ≡ quarterOf right x y j ⌝ }
 {
-    match coordinate::subdivide(c) {
-        HalvesAnswer::Halves { low, high } => Halves { low, high },
-        HalvesAnswer::Refused(_) => Halves { low: c, high: c },
+    if right {
+        return Place {
+            x: half(x, j % 2 == 1),
+            y: half(y, 2 <= j),
+        };
     }
+    Place {
+        x: half(x, false),
+        y: half(y, 1 <= j),
+    }
+}
+
+// The low or the high half of a coordinate; one of rank 0, or with an index past the range, stays as it is.
+fn half(c: Coordinate, high: bool) -> Coordinate
+    ensures { λ r. ⌜ r ≡ halfOf c high ⌝ }
+{
+    if (c.rank == 0) | (INDEX_LIMIT <= c.index) {
+        return c;
+    }
+    let index = 2 * c.index;
+    if high {
+        return Coordinate {
+            index: index + 1,
+            rank: c.rank - 1,
+        };
+    }
+    Coordinate {
+        index,
+        rank: c.rank - 1,
+    }
+}
+
+// The block with a piece of its parameter along a direction; along XY it is the block itself.
+fn with_piece(b: Block, d: Direction, p: Interval) -> Block
+    ensures { λ r. ⌜ r ≡ withParameter b d p ⌝ }
+{
+    match d {
+        Direction::XY => with_parameters(b, b.m, b.n, b.theta, b.t),
+        Direction::M => with_parameters(b, p, b.n, b.theta, b.t),
+        Direction::N => with_parameters(b, b.m, p, b.theta, b.t),
+        Direction::Theta => with_parameters(b, b.m, b.n, p, b.t),
+        Direction::T => with_parameters(b, b.m, b.n, b.theta, p),
+    }
+}
+
+// The block with other parameters, field by field, so that no bytes between the fields are copied.
+fn with_parameters(b: Block, m: Interval, n: Interval, theta: Interval, t: Interval) -> Block
+    ensures { λ r. ⌜ r ≡ withParameters b m n theta t ⌝ }
+{
+    let x = b.x;
+    let y = b.y;
+    Block {
+        x: Coordinate {
+            index: x.index,
+            rank: x.rank,
+        },
+        y: Coordinate {
+            index: y.index,
+            rank: y.rank,
+        },
+        m,
+        n,
+        theta,
+        t,
+        dir: b.dir,
+    }
+}
+
+// Piece j of a parameter's later cut; where there is none, the parameter itself.
+fn piece_of(x: Interval, integer: bool, j: usize) -> Interval
+    ensures { λ r. ⌜ r ≡ pieceOf x integer j ⌝ }
+{
+    match interval::later_cut(x, integer) {
+        PiecesAnswer::One(p) => piece_at(j, p, x, x, x),
+        PiecesAnswer::Two(p, q) => piece_at(j, p, q, x, x),
+        PiecesAnswer::Three(p, q, r) => piece_at(j, p, q, r, x),
+        PiecesAnswer::Refused(_) => x,
+    }
+}
+
+// The interval at a place of three, and another behind them, bound by bound, so that none is copied whole.
+fn piece_at(j: usize, p: Interval, q: Interval, r: Interval, x: Interval) -> Interval
+    ensures { λ o. ⌜ o ≡ getD (p ∷ q ∷ r ∷ []) j x ⌝ }
+{
+    Interval {
+        lower: bound_at(j, p.lower, q.lower, r.lower, x.lower),
+        upper: bound_at(j, p.upper, q.upper, r.upper, x.upper),
+    }
+}
+
+// The same of one bound.
+fn bound_at(j: usize, p: f64, q: f64, r: f64, x: f64) -> f64
+    ensures { λ o. ⌜ o ≡ getD (p ∷ q ∷ r ∷ []) j x ⌝ }
+{
+    if j == 0 {
+        return p;
+    }
+    if j == 1 {
+        return q;
+    }
+    if j == 2 {
+        return r;
+    }
+    x
 }
 
 // Whether a half is listed, by the rank of its whole: above level 0 only if it begins inside its side.
@@ -135,29 +315,6 @@ fn is_kept(rank: u8, c: Coordinate, side: u32) -> bool
     ensures { λ r. ⌜ r ≡ isKept rank c side ⌝ }
 {
     (rank <= PIXEL_RANK) | is_placed(c, side)
-}
-
-// The first quarter, which begins where the block does, and those at the high halves as far as these are listed.
-fn list_quarters(b: Block, x: Halves, y: Halves, right: bool, above: bool) -> Children
-    ensures { λ r. ⌜ r ≡ listed b (quartersKept b x y right above) ⌝ }
-{
-    let q0 = moved_to(b, x.low, y.low);
-    let q1 = moved_to(b, x.high, y.low);
-    let q2 = moved_to(b, x.low, y.high);
-    let q3 = moved_to(b, x.high, y.high);
-    if right {
-        if above {
-            return Children {
-                at: [q0, q1, q2, q3],
-                count: 4,
-            };
-        }
-        return list_two(b, q0, q1);
-    }
-    if above {
-        return list_two(b, q0, q2);
-    }
-    list_one(b, q0)
 }
 
 // The block at other coordinates, field by field, so that no bytes between the fields are copied.
@@ -182,23 +339,5 @@ fn moved_to(b: Block, x: Coordinate, y: Coordinate) -> Block
         theta,
         t,
         dir: b.dir,
-    }
-}
-
-// The pieces of a parameter's later cut in order.
-fn children_cut(b: Block, d: Direction) -> Children
-    requires { ⌜ legalInterval (parameterOf b d) (isInteger d) ≡ true ⌝ }
-    ensures { λ r. ⌜ r ≡ listed b (childrenCut b d) ⌝ }
-{
-    match interval::later_cut(parameter_of(b, d), is_integer(d)) {
-        PiecesAnswer::One(p) => list_one(b, with_parameter(b, d, p)),
-        PiecesAnswer::Two(p, q) => list_two(b, with_parameter(b, d, p), with_parameter(b, d, q)),
-        PiecesAnswer::Three(p, q, r) => list_three(
-            b,
-            with_parameter(b, d, p),
-            with_parameter(b, d, q),
-            with_parameter(b, d, r),
-        ),
-        PiecesAnswer::Refused(_) => no_child(b),
     }
 }

@@ -1,4 +1,5 @@
-// What a step decides of one block, before anything is written: its children, what a verdict makes of a child, and where an incomplete one goes on. The crate `plan` puts these together.
+// What a step decides of one block, before anything is written: its children, what a verdict makes of a child, and where an incomplete one
+// goes on. The crates `plan` and `implicit` put these together.
 // Document 01, "Picture and step"; from the Rust's graph/implicit.rs (`subdivide_xy`, `process_block`, the search for a direction).
 // There is no ring here, and no cell is written. Every public function takes any picture, block, verdicts and cells.
 
@@ -8,14 +9,18 @@ mod turn;
 mod verdict;
 
 pub use children::Children;
+pub use children::Cut;
+pub use children::Place;
+pub use children::child_of;
 pub use children::children_of;
+pub use children::cut_of;
+pub use children::place_of;
 pub use coordinate::is_legal_side;
 pub use damage::has_damaged_cell;
 pub use damage::is_legal_chosen;
 pub use turn::Found;
-pub use turn::Turned;
+pub use turn::find_direction;
 pub use turn::start_of;
-pub use turn::turn_from;
 pub use verdict::Outcome;
 pub use verdict::cost_of;
 pub use verdict::is_legal_verdict;

@@ -3,9 +3,10 @@ ghost use mathlib.Core.Path.{_≡_};
 ghost use Prim.Native.Nat.{_%_, _^_, _<_};
 ghost use Rattle.queue.specs.Directions.{directions, directionAt};
 ghost use Rattle.decide.specs.Damage.{directionOf};
-ghost use Rattle.decide.specs.Turn.{incompleteLimit, startOf, splitsAt, subdivisibleAlong, searched, turnedFound};
+ghost use Rattle.decide.specs.Turn.{incompleteLimit, startOf, splitsAt, subdivisibleAlong, searched};
 use super::Chosen;
 use super::damage::is_cuttable;
+use coordinate::FLOOR_RANK;
 use interval::Interval;
 use queue::Block;
 use queue::Direction;
@@ -14,31 +15,10 @@ use queue::direction_at;
 use queue::direction_count;
 use refusal::Whether;
 
-// An incomplete child with its next direction.
-pub enum Turned {
-    To(Block),
-    // It cannot be cut along any direction.
-    Nowhere,
-}
-
 // The place of a direction in the list of those in use.
 pub enum Found {
     At(u8),
     Nothing,
-}
-
-// The child with the direction that a search from a place on finds.
-pub fn turn_from(p: Chosen, start: u16, c: Block) -> Turned
-    ensures { λ r. ⌜ r ≡ turnedFound p start c ⌝ }
-{
-    match search(p, c, start as usize) {
-        Found::At(at) => {
-            let mut t = c;
-            t.dir = at;
-            Turned::To(t)
-        }
-        Found::Nothing => Turned::Nowhere,
-    }
 }
 
 // Where the search begins: at the present direction while few children are incomplete, else at the next.
@@ -68,7 +48,21 @@ fn incomplete_limit(p: Chosen, b: Block) -> usize
     }
 }
 
-// The first direction, round the list from a place on, that the block can be cut along: as a rule the first that is tried.
+// The first direction, round the list from a place on, that the block can be cut along. Where no parameter is in use it can be xy alone.
+pub fn find_direction(p: Chosen, c: Block, from: u16) -> Found
+    ensures { λ r. ⌜ r ≡ searched p c from ⌝ }
+{
+    if p.set % 16 == 0 {
+        let x = c.x;
+        if (FLOOR_RANK < x.rank) & ((p.set / 32 % 2 == 1) | (p.set / 16 % 2 == 1)) {
+            return Found::At(0);
+        }
+        return Found::Nothing;
+    }
+    search(p, c, from as usize)
+}
+
+// The same for any set: as a rule the first that is tried.
 fn search(p: Chosen, c: Block, start: usize) -> Found
     requires { ⌜ start < 2 ^ 16 ⌝ }
     ensures { λ r. ⌜ r ≡ searched p c start ⌝ }

@@ -11,6 +11,8 @@ pub mod SetupLawsStart
 pub mod StepLawsKept
 pub mod StepLawsComputed
 pub mod StepLawsCode
+pub mod StepLawsChildren
+pub mod StepLawsFront
 pub mod StepLaws
 pub mod StepLawsWent
 pub mod StepLawsSound

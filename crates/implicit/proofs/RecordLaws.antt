@@ -135,6 +135,10 @@ use-damaged len s h = rw h (without (legalChosen (s .chosen)) (soundCounts s) (s
     without true false c e f = refl
     without false b c e f = refl
 
+-- a record that is sound by its use is sound exactly if its use is
+pub use-same : (len : ℕ) (s : State) → (soundUse s ≡ true → soundRecord len s ≡ true) → soundUse s ≡ soundRecord len s
+use-same len s h = cases (soundUse s) (λ e. e ∙ sym (h e)) (λ e. e ∙ sym (use-damaged len s e))
+
 pub use-as : (s : State) → soundUse s ≡ true → eqb (s .used) 0 ≡ eqb (s .taken) (s .queued)
 use-as s h = beq-true (eqb (s .used) 0) (eqb (s .taken) (s .queued)) h
 

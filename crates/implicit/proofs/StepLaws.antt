@@ -1,376 +1,381 @@
--- The step, stage by stage: what a finished one has been through, and that the code's checks and its writing are the definition's. Assumes nothing.
+-- The step, stage by stage: what its decision says, and that the check of the room and the writing are the definition's. Assumes nothing.
 use mathlib.Core.Path.{_≡_, refl, sym, ap, _∙_}
-use mathlib.Core.Bool.{Bool, true, false, not, cond}
-use mathlib.Core.List.{List, _++_}
-use lib.ListN as L
-use Prim.Native.Nat.{ℕ, _+_, _-_, _^_, _≤_, _<_}
+use mathlib.Core.Bool.{Bool, true, false, cond}
+use mathlib.Core.List.{List, [], _∷_, map}
+use Prim.Native.Nat.{ℕ, _+_, _-_, _^_, _≤_}
 use native.Mathlib.Omega.{arith}
+use native.Mathlib.Nat.{zero-add}
 use lib.Dec.{leb, ltb}
 use lib.ListN.{length, take, replicate, length-append, length-replicate}
-use borrow.Author.Tests.{leb-true, ltb-true, eqb-true, lt-ltb}
-use Rattle.base.proofs.Test.{cases, by-test, and-left, and-both, cond-yes, cond-no}
+use lib.ListN as L
+use borrow.Author.Tests.{leb-true, leb-false, lt-ltb, le-leb, lt-leb}
+use Rattle.base.proofs.Test.{cases, by-test}
 use Rattle.base.specs.Event.{queuedBy}
-use Rattle.base.proofs.ListLaws.{every-also}
 use Rattle.refusal.specs.declared.Refusal.{Refusal}
 use Rattle.refusal.specs.declared.Refusal.the-variants as R
-use Rattle.image.specs.Cell.{meanings, meaningOf}
+use Rattle.image.specs.declared.Op.the-variants as Op
+use Rattle.image.specs.Cell as Cells
 use Rattle.queue.specs.declared.Block.{Block}
 use Rattle.queue.specs.declared.Last.{Last}
 use Rattle.queue.specs.declared.Taken.{Taken}
 use Rattle.queue.specs.declared.Taken.the-variants as T
-use Rattle.queue.specs.declared.read.BlockRead.{BlockRead}
-use Rattle.queue.specs.declared.read.BlockRead.the-variants as Rd
-use Rattle.queue.specs.Block.{remembered}
-use Rattle.queue.specs.Ring.{content, fitsRing, wrapped}
+use Rattle.queue.specs.Ring.{storedBehind}
 use Rattle.queue.specs.Code.{indicesKnown}
-use Rattle.queue.specs.Decode.{decode}
-use Rattle.queue.specs.Queue.{taken, takenWith}
-use Rattle.queue.proofs.QueueAnswers.{fits-both}
-use Rattle.queue.proofs.BlockReading.{inside-read, decode-inside}
-use Rattle.queue.proofs.RingLaws.{content-length}
+use Rattle.queue.specs.Queue as Queue
+use Rattle.queue.specs.Queue.{taken}
 use Rattle.decide.specs.declared.Chosen.{Chosen}
-use Rattle.decide.specs.declared.children.Children.{Children}
-use Rattle.queue.proofs.RoundTrip.{CanQueue}
-use Rattle.plan.specs.declared.Plan.{Plan}
-use Rattle.decide.specs.Damage.{legalChosen, undamaged, cellDamaged, sound}
-use Rattle.decide.specs.Children.{childrenOf, listed}
-use Rattle.plan.specs.AtOnce.{planListed}
-use Rattle.decide.specs.Verdict.{allLegal}
+use Rattle.decide.specs.declared.verdict.Outcome.{Outcome}
+use Rattle.decide.specs.declared.verdict.Outcome.the-variants as Out
+use Rattle.decide.specs.Damage.{sound}
+use Rattle.decide.specs.Children.{childrenOf}
+use Rattle.decide.specs.ChildAt.{cutOf}
 use Rattle.decide.specs.Turn.{turned}
-use Rattle.plan.specs.Plan.{incompleteCount, evaluations, markEvents, turnEvents, eventsFor, untouched, plannedAll}
+use Rattle.decide.specs.Verdict.{allLegal, outcomeOf, isMarking}
 use Rattle.decide.proofs.ListingLaws.{children-few}
-use Rattle.plan.proofs.StepPlan.{planFrom, enoughCells, planOf}
-use Rattle.plan.proofs.PlanLaws.{planned-length, plan-listed}
-use Rattle.plan.proofs.EventLaws.{step-queues, queued-sound}
+use Rattle.plan.specs.declared.Judged.{Judged}
+use Rattle.plan.specs.Plan.{paintedUnder, allTrue, outcomes, incompleteCount, evaluations, markEvents, turnEvents, eventsFor, cellsAfter}
+use Rattle.plan.specs.AtOnce.{childrenBy, noted, judgedAs, judgedOf}
+use Rattle.plan.proofs.JudgedLaws.{cut-children, judged-in-order, marks-queue-none}
 use Rattle.implicit.specs.declared.state.State.{State}
 use Rattle.implicit.specs.declared.state.StepAnswer.{StepAnswer}
 use Rattle.implicit.specs.declared.state.StepAnswer.the-variants as S
-use Rattle.implicit.specs.declared.stepping.Check.{Check}
-use Rattle.implicit.specs.declared.stepping.Check.the-variants as C
-use Rattle.implicit.specs.declared.stepping.Front.{Front}
-use Rattle.implicit.specs.declared.stepping.FrontAnswer.{FrontAnswer}
-use Rattle.implicit.specs.declared.stepping.FrontAnswer.the-variants as P
-use Rattle.implicit.specs.declared.stepping.Size.{Size}
+use Rattle.implicit.specs.declared.deciding.Check.{Check}
+use Rattle.implicit.specs.declared.deciding.Check.the-variants as C
+use Rattle.implicit.specs.declared.deciding.Decided.{Decided}
+use Rattle.implicit.specs.DecisionComputed.{Decision}
+use Rattle.implicit.specs.DecisionComputed as D
+use Rattle.implicit.specs.declared.fitting.Size.{Size}
+use Rattle.implicit.specs.declared.commit.Behind.{Behind}
 use Rattle.implicit.specs.Record.{pixelCount, soundRecord, putLast}
 use Rattle.implicit.specs.Listing.{frontOf}
-use Rattle.implicit.specs.Step.{World, worldOf, StepEnd, refused, finished, unless, enoughVerdicts, outcomesOf, eventsOf, newBlocks, newBytes, worldLeft, blockSound, judged, afterTaking, stepWith, EndsAs}
-use Rattle.implicit.specs.StepComputed.{frontAs, frontAnswer, Begun, blockCheck, sizeOf, planCheck, committed}
-use Rattle.implicit.proofs.RecordLaws.{sound-record, sound-chosen}
-use Rattle.implicit.proofs.StepLawsKept.{Formats, AllReady, read-kept, block-fine}
-use Rattle.implicit.proofs.StepLawsComputed.{marksIn, turnsIn, queuedIn, planned-marks, planned-turns, marks-listed, turns-listed, queued-behind-marks, sized-is, leftBy, committed-is}
+use Rattle.implicit.specs.Step.{World, worldOf, StepEnd, refused, finished, unless, enoughVerdicts, outcomesOf}
+use Rattle.implicit.specs.Step.{eventsOf, newBlocks, newBytes, worldLeft, blockSound, judged, afterTaking}
+use Rattle.implicit.specs.Step.{stepWith, EndsAs}
+use Rattle.implicit.specs.StepComputed.{decisionJudged, decisionOn, decisionFrom, decisionOf, Four, FourIn}
+use Rattle.implicit.specs.StepComputed.{turnOf, sizeOf, sizeCheck, roomCheck, RoomAsked, roomCheckOf, markedFor}
+use Rattle.implicit.specs.StepComputed.{Carrying, carryingOf, committed, committedOf, finishedBy, finishedAs}
+use Rattle.implicit.proofs.RecordLaws.{sound-record}
+use Rattle.implicit.proofs.StepLawsKept.{LastHeld, AllReady}
+use Rattle.implicit.proofs.StepLawsComputed.{outcomesIn, padded, marks-padded, turns-padded, sized-is, marked-length, marked-is, carried-is}
+use Rattle.implicit.proofs.StepLawsFront.{front-known, front-head, front-used, block-whole, new-ready}
 
--- THE FRONT BLOCK THAT WAS READ
+-- WHAT A DECISION SAYS
 
-pub record FrontRead (ring : List ℕ) (head used set : ℕ) (front : Last) (b : Block) (last : Last) (head′ used′ : ℕ) : Type 0 where
-  pub size : ℕ
-  pub decodes : decode set front (content ring head used) ≡ Rd.Read b size
-  pub remembers : last ≡ remembered b
-  pub next-head : head′ ≡ wrapped (length ring) (head + size)
-  pub next-used : used′ ≡ used - size
-  pub size-in : size ≤ used
-  pub head-in : head < length ring
-  pub used-in : used ≤ length ring
+-- all that is known of a step that nothing has refused yet, but for numbers and room
+pub record Gone (tape : Bool) (s : State) (ring cells vs : List ℕ) (g : Decided) : Type 0 where
+  pub last : Last
+  pub sound-record : soundRecord (length ring) s ≡ true
+  pub cells-enough : leb (pixelCount (s .chosen)) (length cells) ≡ true
+  pub not-empty : ltb (s .taken) (s .queued) ≡ true
+  pub front-read : frontOf s ring ≡ T.Front (g .block) last (g .head) (g .used)
+  pub block-sound : blockSound (s .chosen) cells (g .block) ≡ true
+  pub enough : enoughVerdicts tape (length (childrenOf (s .chosen) (g .block))) (length vs) ≡ true
+  pub cut-is : g .cut ≡ cutOf (s .chosen) (g .block)
+  pub judged-is : g .judged ≡ judgedOf (s .chosen) (g .block) (cutOf (s .chosen) (g .block)) (take (length (childrenOf (s .chosen) (g .block))) vs) cells
+  pub legal : g .judged .legal ≡ true
 
-pub front-read : (ring : List ℕ) (head used set : ℕ) (front : Last) (b : Block) (last : Last) (head′ used′ : ℕ) → taken ring head used set front ≡ T.Front b last head′ used′
-    → FrontRead ring head used set front b last head′ used′
-unfolding taken
-front-read ring head used set front b last head′ used′ e =
-    cases (fitsRing (length ring) head used)
-    (λ f. go (fits-both (length ring) head used f) (decode set front (content ring head used)) refl (rw f at e))
-    (λ f. (let g : T.Outside ≡ T.Front b last head′ used′ = rw f at e in let z : _≡_ {A = ℕ} 0 1 = cc in absurd (omega arith)))
-  where
-    go : (head < length ring) × (used ≤ length ring) → (r : BlockRead) → decode set front (content ring head used) ≡ r → takenWith (length ring) head used r ≡ T.Front b last head′ used′
-        → FrontRead ring head used set front b last head′ used′
-    go f (Rd.Read c n) d h =
-        let same : c ≡ b = cc in
-        let k = inside-read (content ring head used) (decode set front (content ring head used)) c n (decode-inside set front (content ring head used)) d in
-        let l = content-length ring head used (omega (arith, f .0)) (f .1) in
-        record {
-          size = n;
-          decodes = d ∙ ap (λ (x : Block). Rd.Read x n) same;
-          remembers = (let j : remembered c ≡ last = cc in sym j ∙ ap remembered same);
-          next-head = (let j : wrapped (length ring) (head + n) ≡ head′ = cc in sym j);
-          next-used = (let j : used - n ≡ used′ = cc in sym j);
-          size-in = omega (arith, k, l);
-          head-in = f .0;
-          used-in = f .1;
-        }
-    go f Rd.Damaged d h = let z : _≡_ {A = ℕ} 0 1 = cc in absurd (omega arith)
+module _ (tape : Bool) (s : State) (ring cells vs : List ℕ) where
+  abbrev world : World
+  world = worldOf s ring cells
 
-wrapped-in : (n p : ℕ) → p < n + n → wrapped n p < n
-wrapped-in n p h = by-test (λ x. x < n) (ltb p n) p (p - n) (λ e. ltb-true p n e) (λ e. omega arith)
+  -- what becomes of the step
+  abbrev pub Decides : Decision → Type 0
+  Decides (D.Go g) = Gone tape s ring cells vs g
+  Decides (D.Refused why) = stepWith tape world vs ≡ refused why
 
--- THE PLAN OF A STEP
+  -- what is remembered of the children, in the definition's words
+  judged-as : (b : Block) (own : List ℕ) → sound (s .chosen) b ≡ true → leb (pixelCount (s .chosen)) (length cells) ≡ true
+      → judgedOf (s .chosen) b (cutOf (s .chosen) b) own cells ≡ judgedAs (outcomesOf world b own) (allLegal (childrenOf (s .chosen) b) own)
+  judged-as b own ok h = judged-in-order (s .chosen) b ok own cells (leb-true (pixelCount (s .chosen)) (length cells) h)
 
--- the plan is the definition's, where there is a cell for each pixel
-pub record PlanFacts (w : World) (b : Block) (own : List ℕ) (p : Plan) : Type 0 where
-  pub legal : p .legal ≡ allLegal (childrenOf (w .state .chosen) b) own
-  pub count : p .count ≡ length (childrenOf (w .state .chosen) b)
-  pub evals : p .evaluations ≡ evaluations (outcomesOf w b own)
-  pub many : p .queued ≡ length (newBlocks w b own)
-  pub few : p .queued ≤ 4
-  pub four : length (p .at) ≡ 4
-  pub events : marksIn (p .at) ++ turnsIn (p .at) ≡ eventsOf w b own
-  pub queued : queuedIn (p .at) ≡ newBlocks w b own
+  module _ (a : soundRecord (length ring) s ≡ true) (h : leb (pixelCount (s .chosen)) (length cells) ≡ true) (e : ltb (s .taken) (s .queued) ≡ true) where
+    block-decides : (b : Block) (last : Last) (head used : ℕ) → frontOf s ring ≡ T.Front b last head used
+        → Decides (decisionOn (s .chosen) cells tape vs b head used)
+    unfolding decisionOn decisionJudged stepWith afterTaking judged unless judgedAs
+    block-decides b last head used f =
+        let cs = childrenOf (s .chosen) b in
+        let own = take (length cs) vs in
+        by-test Decides (blockSound (s .chosen) cells b) _ _
+        (λ d. (let j = judged-as b own (block-whole s ring b last head used f cells a d) h in
+        by-test Decides (enoughVerdicts tape (length cs) (length vs)) _ _
+        (λ n. by-test Decides (judgedOf (s .chosen) b (cutOf (s .chosen) b) own cells .legal) _ _
+        (λ l. record {
+          last = last;
+          sound-record = a;
+          cells-enough = h;
+          not-empty = e;
+          front-read = f;
+          block-sound = d;
+          enough = n;
+          cut-is = refl;
+          judged-is = refl;
+          legal = l;
+        })
+        (λ l. (let i : allLegal cs own ≡ false = sym (ap (λ (x : Judged). x .legal) j) ∙ l in rw (a, h, e, f, d, n, i))))
+        (λ n. rw (a, h, e, f, d, n))))
+        (λ d. rw (a, h, e, f, d))
 
-plan-from : (w : World) (b : Block) (own : List ℕ) → PlanFacts w b own (planFrom (w .state .chosen) b (childrenOf (w .state .chosen) b) (outcomesOf w b own) own)
-unfolding planFrom eventsFor
-plan-from w b own =
-    let p = w .state .chosen in
-    let cs = childrenOf p b in
-    let os = outcomesOf w b own in
-    let turn = turned p b (incompleteCount os) in
-    let l = plannedAll turn cs os in
-    let n = 4 - length l in
-    let es = l ++ replicate n (untouched b) in
-    let m : marksIn es ≡ markEvents cs os = marks-listed b n l ∙ planned-marks turn cs os in
-    let t : turnsIn es ≡ turnEvents turn cs os = turns-listed b n l ∙ planned-turns turn cs os in
-    let ev : marksIn es ++ turnsIn es ≡ markEvents cs os ++ turnEvents turn cs os = rw (m, t) in
-    let q : queuedIn es ≡ queuedBy (markEvents cs os ++ turnEvents turn cs os) = sym (queued-behind-marks es (turnsIn es)) ∙ ap queuedBy ev in
-    let c = children-few p b in
-    record {
-      legal = refl;
-      count = refl;
-      evals = refl;
-      many = refl;
-      few = step-queues p b os;
-      four = omega (arith, length-append l (replicate n (untouched b)), length-replicate n (untouched b), planned-length turn cs os);
-      events = ev;
-      queued = q;
+    front-decides : (t : Taken) → frontOf s ring ≡ t → Decides (decisionFrom (s .chosen) cells tape vs t)
+    unfolding stepWith afterTaking unless
+    front-decides (T.Front b last head used) f = block-decides b last head used f
+    front-decides T.Damaged f = rw (a, h, e, f)
+    front-decides T.Outside f = rw (a, h, e, f)
+
+  pub decides : Decides (decisionOf (s .chosen) (soundRecord (length ring) s) (ltb (s .taken) (s .queued)) (frontOf s ring) cells tape vs)
+  unfolding decisionOf stepWith unless
+  decides =
+      by-test Decides (soundRecord (length ring) s) _ _
+      (λ a. by-test Decides (leb (pixelCount (s .chosen)) (length cells)) _ _
+      (λ h. by-test Decides (ltb (s .taken) (s .queued)) _ _ (λ e. front-decides a h e (frontOf s ring) refl) (λ e. rw (a, h, e)))
+      (λ h. rw (a, h)))
+      (λ a. rw a)
+
+-- WHAT IS KNOWN BEFORE THE FIRST WRITE
+
+outcomes-few : (p : Chosen) (l : List Cells.Cell) (cs : List Block) (vs : List ℕ) → length (outcomes p l cs vs) ≤ length cs
+unfolding outcomes
+outcomes-few p l [] vs = omega arith
+outcomes-few p l (c ∷ cs) [] = omega arith
+outcomes-few p l (c ∷ cs) (v ∷ vs) =
+    let o = outcomeOf (c .x .rank) v (allTrue p c l) in
+    omega (arith, outcomes-few p (cond (isMarking o) (paintedUnder p c Op.Mark l) l) cs vs)
+
+module _ (tape : Bool) (s : State) (ring cells vs : List ℕ) (g : Decided) (k : Gone tape s ring cells vs g) where
+  abbrev here : World
+  here = worldOf s ring cells
+
+  abbrev kids : List Block
+  kids = childrenOf (s .chosen) (g .block)
+
+  abbrev own : List ℕ
+  own = take (length kids) vs
+
+  abbrev ended : List Outcome
+  ended = outcomesOf here (g .block) own
+
+  pub back-known : indicesKnown (putLast (s .back)) ≡ true
+  unfolding indicesKnown putLast
+  back-known = let r = sound-record (length ring) s (k .sound-record) .back in rw (lt-ltb (s .back .x) (2 ^ 47) (r .x), lt-ltb (s .back .y) (2 ^ 47) (r .y))
+
+  whole : sound (s .chosen) (g .block) ≡ true
+  whole = block-whole s ring (g .block) (k .last) (g .head) (g .used) (k .front-read) cells (k .sound-record) (k .block-sound)
+
+  in-ring : g .used ≤ length ring
+  in-ring = front-used s ring (g .block) (k .last) (g .head) (g .used) (k .front-read)
+
+  -- what is remembered
+  remembers : g .judged ≡ judgedAs ended (allLegal kids own)
+  remembers = k .judged-is ∙ judged-as tape s ring cells vs (g .block) own whole (k .cells-enough)
+
+  places : g .judged .at ≡ padded ended (4 - length ended)
+  unfolding judgedAs
+  places = ap (λ (j : Judged). j .at) remembers
+
+  incomplete-as : g .judged .incomplete ≡ incompleteCount ended
+  unfolding judgedAs
+  incomplete-as = ap (λ (j : Judged). j .incomplete) remembers
+
+  evaluated-as : g .judged .evaluations ≡ evaluations ended
+  unfolding judgedAs
+  evaluated-as = ap (λ (j : Judged). j .evaluations) remembers
+
+  legal-as : allLegal kids own ≡ true
+  unfolding judgedAs
+  legal-as = sym (ap (λ (j : Judged). j .legal) remembers) ∙ k .legal
+
+  cut-kids : childrenBy (g .cut) (g .block) ≡ kids
+  cut-kids = rw (k .cut-is) (cut-children (s .chosen) (g .block) whole)
+
+  counted : g .cut .count ≡ length kids
+  unfolding cutOf
+  counted = rw (k .cut-is)
+
+  turn-as : turnOf (s .chosen) g ≡ turned (s .chosen) (g .block) (incompleteCount ended)
+  unfolding turned
+  turn-as = rw incomplete-as
+
+  -- the events, and the blocks that they queue
+  turns-as : turnEvents (turnOf (s .chosen) g) (childrenBy (g .cut) (g .block)) (outcomesIn (g .judged .at))
+      ≡ turnEvents (turned (s .chosen) (g .block) (incompleteCount ended)) kids ended
+  turns-as = rw (turn-as, cut-kids, places) (turns-padded (turned (s .chosen) (g .block) (incompleteCount ended)) kids ended (4 - length ended))
+
+  marks-as : markEvents (childrenBy (g .cut) (g .block)) (outcomesIn (g .judged .at)) ≡ markEvents kids ended
+  marks-as = rw (cut-kids, places) (marks-padded kids ended (4 - length ended))
+
+  queued-as : queuedBy (turnEvents (turnOf (s .chosen) g) (childrenBy (g .cut) (g .block)) (outcomesIn (g .judged .at))) ≡ newBlocks here (g .block) own
+  unfolding eventsFor
+  queued-as = ap queuedBy turns-as ∙ sym (marks-queue-none kids ended (turnEvents (turned (s .chosen) (g .block) (incompleteCount ended)) kids ended))
+
+  pub four : Four g
+  unfolding judgedAs
+  four =
+      let n = 4 - length ended in
+      let few = outcomes-few (s .chosen) (Cells.meanings cells) kids own in
+      let most = children-few (s .chosen) (g .block) in
+      let l : length (padded ended n) ≡ 4 = omega (
+        arith,
+        few,
+        most,
+        length-append (map noted ended) (replicate n (noted Out.Skipped)),
+        L.length-map ended noted,
+        length-replicate n (noted Out.Skipped),
+      ) in
+      (omega (arith, counted, most), ap length places ∙ l)
+
+  module _ (held : LastHeld (s .front)) where
+    ready : AllReady (s .chosen .set) (newBlocks here (g .block) own)
+    ready = new-ready s ring (g .block) (k .last) (g .head) (g .used) (k .front-read) cells (k .sound-record) (k .block-sound) held own
+
+    -- THE ROOM
+
+    sizes : sizeOf (s .chosen) (putLast (s .back)) g ≡ record {
+      queued = length (newBlocks here (g .block) own);
+      total = length (newBytes here (g .block) own);
+      last = Queue.memory (putLast (s .back)) (newBlocks here (g .block) own);
     }
+    sizes =
+        let q = queued-as in
+        let z : Size = record { queued = 0; total = 0; last = putLast (s .back) } in
+        sized-is (s .chosen) (turnOf (s .chosen) g) z (childrenBy (g .cut) (g .block)) (g .judged .at) (rw q ready) back-known
+        ∙ rw (q, zero-add (length (newBlocks here (g .block) own)), zero-add (length (newBytes here (g .block) own)))
 
-pub plan-facts : (w : World) (b : Block) (own : List ℕ) (p : Plan) → leb (pixelCount (w .state .chosen)) (length (w .cells)) ≡ true → p ≡ planOf (w .state .chosen) b own (meanings (w .cells))
-    → PlanFacts w b own p
-unfolding planOf
-plan-facts w b own p h e =
-    let k : enoughCells (w .state .chosen) (length (meanings (w .cells))) ≡ true = rw (L.length-map (w .cells) meaningOf) h in
-    rw e (rw k (plan-from w b own))
+    abbrev leaves : StepEnd
+    leaves = finished (worldLeft here (g .block) (k .last) (g .head) (g .used) own) (evaluations ended) (length kids)
 
--- from the children that were listed
-pub plan-is : (p : Chosen) (b : Block) (vs cells : List ℕ) (k : Children) (r : Plan) → leb (pixelCount p) (length cells) ≡ true → k ≡ listed b (childrenOf p b)
-    → r ≡ planListed p b k vs cells → r ≡ planOf p b vs (meanings cells)
-plan-is p b vs cells k r h e f = f ∙ ap (λ (x : Children). planListed p b x vs cells) e ∙ plan-listed p b vs cells h
+    -- the step, once the room is checked
+    abbrev afterCheck : Check → StepEnd
+    afterCheck C.Passed = leaves
+    afterCheck (C.Refused why) = refused why
 
--- THE CHECKS, ONE AFTER THE OTHER
+    fits-same : (used n len : ℕ) → used ≤ len → leb n (len - used) ≡ leb (used + n) len
+    fits-same used n len h =
+        cases (leb n (len - used))
+        (λ e. e ∙ sym (le-leb (used + n) len (omega (arith, leb-true n (len - used) e))))
+        (λ e. e ∙ sym (lt-leb (used + n) len (omega (arith, leb-false n (len - used) e))))
 
--- a check, and what follows where it passes
-abbrev pub afterCheck : Check → StepEnd → StepEnd
-afterCheck C.Passed rest = rest
-afterCheck (C.Refused why) rest = refused why
+    two-checks : (a b : Bool) (u v : Refusal)
+        → afterCheck (cond a (cond b C.Passed (C.Refused u)) (C.Refused v)) ≡ cond a (cond b leaves (refused u)) (refused v)
+    two-checks true true u v = refl
+    two-checks true false u v = refl
+    two-checks false b u v = refl
 
-two-checks : (a b : Bool) (v d : Refusal) (rest : StepEnd) → afterCheck (cond a (cond b C.Passed (C.Refused v)) (C.Refused d)) rest ≡ cond a (cond b rest (refused v)) (refused d)
-two-checks true true v d rest = refl
-two-checks true false v d rest = refl
-two-checks false b v d rest = refl
+    pub step-room : stepWith tape here vs ≡ afterCheck (roomCheck (s .chosen) (s .queued) (s .back) (length ring) g)
+    unfolding stepWith afterTaking judged unless sizeCheck
+    step-room =
+        let u = fits-same (g .used) (length (newBytes here (g .block) own)) (length ring) in-ring in
+        rw (k .sound-record, k .cells-enough, k .not-empty, k .front-read, k .block-sound, k .enough, legal-as, sizes, u)
+        (sym (two-checks (leb (s .queued + length (newBlocks here (g .block) own)) (2 ^ 32))
+        (leb (g .used + length (newBytes here (g .block) own)) (length ring)) R.Room R.Numbers))
 
-three-checks : (a b c : Bool) (u v d : Refusal) (rest : StepEnd)
-    → afterCheck (cond a (cond b (cond c C.Passed (C.Refused u)) (C.Refused v)) (C.Refused d)) rest ≡ cond a (cond b (cond c rest (refused u)) (refused v)) (refused d)
-three-checks true true true u v d rest = refl
-three-checks true true false u v d rest = refl
-three-checks true false c u v d rest = refl
-three-checks false b c u v d rest = refl
+    -- THE WRITING
 
-pub front-taken-by : (tape : Bool) (w : World) (vs : List ℕ) (b : Block) (last : Last) (head used n : ℕ) → n ≡ length (childrenOf (w .state .chosen) b)
-    → afterTaking tape w vs (T.Front b last head used) ≡ afterCheck (blockCheck (w .state .chosen) b (w .cells) n (length vs) tape) (judged w b last head used (take n vs))
-unfolding afterTaking unless blockCheck
-front-taken-by tape w vs b last head used n e =
-    rw e (sym (two-checks (blockSound (w .state .chosen) (w .cells) b) (enoughVerdicts tape (length (childrenOf (w .state .chosen) b)) (length vs)) R.Verdicts R.Damaged
-    (judged w b last head used (take (length (childrenOf (w .state .chosen) b)) vs))))
+    module _ (passed : roomCheck (s .chosen) (s .queued) (s .back) (length ring) g ≡ C.Passed) where
+      both : (s .queued + length (newBlocks here (g .block) own) ≤ 2 ^ 32) × (g .used + length (newBytes here (g .block) own) ≤ length ring)
+      unfolding sizeCheck
+      both =
+          let n = s .queued + length (newBlocks here (g .block) own) in
+          let l = length (newBytes here (g .block) own) in
+          let t = two-passed (leb n (2 ^ 32)) (leb l (length ring - g .used)) R.Room R.Numbers (rw sizes at passed) in
+          (leb-true n (2 ^ 32) (t .0), omega (arith, leb-true l (length ring - g .used) (t .1), in-ring))
+        where
+          two-passed : (a b : Bool) (u v : Refusal) → cond a (cond b C.Passed (C.Refused u)) (C.Refused v) ≡ C.Passed → (a ≡ true) × (b ≡ true)
+          two-passed true true u v e = (refl, refl)
+          two-passed true false u v e = let z : _≡_ {A = ℕ} 0 1 = cc in absurd (omega arith)
+          two-passed false b u v e = let z : _≡_ {A = ℕ} 0 1 = cc in absurd (omega arith)
 
--- the front block, and what follows where it is read
-abbrev pub afterFront : FrontAnswer → (Taken → StepEnd) → StepEnd
-afterFront (P.At f) rest = rest (T.Front (f .block) (f .last) (f .head) (f .used))
-afterFront (P.Refused why) rest = refused why
+      -- what is written is the definition's
+      pub written : committed (s .chosen) (s .taken) (s .queued) (s .back) ring cells g ≡ record {
+        queued = s .queued + length (newBlocks here (g .block) own);
+        used = g .used + length (newBytes here (g .block) own);
+        back = Queue.memory (putLast (s .back)) (newBlocks here (g .block) own);
+        ring = storedBehind ring (g .head) (g .used) (newBytes here (g .block) own);
+        cells = Cells.codes (cellsAfter (s .chosen) (g .block) (s .taken) (s .queued) (eventsOf here (g .block) own) (Cells.meanings cells));
+      }
+      unfolding committed eventsFor
+      written =
+          let p = s .chosen in
+          let cs = childrenBy (g .cut) (g .block) in
+          let es = g .judged .at in
+          let fs = turnEvents (turnOf p g) cs (outcomesIn es) in
+          let q = queued-as in
+          carried-is p (s .taken) (g .head) (g .block) (turnOf p g)
+          (record { queued = s .queued; used = g .used; back = putLast (s .back); ring = ring; cells = markedFor p cells g }) cs es
+          (record {
+            head-in = front-head s ring (g .block) (k .last) (g .head) (g .used) (k .front-read);
+            room = rw q (both .1);
+            numbers = rw q (both .0);
+            cells-enough = rw (marked-length p cells cs es) (k .cells-enough);
+            known = back-known;
+            ready = rw q ready;
+          })
+          ∙ rw (q, marked-is p (g .block) (s .taken) (s .queued) cells cs es fs (k .cells-enough), marks-as, turns-as)
 
-front-taken-as : (tape : Bool) (w : World) (vs : List ℕ) (t : Taken) → afterTaking tape w vs t ≡ afterFront (frontAs t) (afterTaking tape w vs)
-unfolding afterTaking
-front-taken-as tape w vs (T.Front b last head used) = refl
-front-taken-as tape w vs T.Damaged = refl
-front-taken-as tape w vs T.Outside = refl
+      -- the answer
+      pub ends-finished : (l : Behind) (ring′ cells′ : List ℕ) → carryingOf l ring′ cells′ ≡ committed (s .chosen) (s .taken) (s .queued) (s .back) ring cells g
+          → EndsAs here (stepWith tape here vs) (finishedBy s l g) ring′ cells′
+      unfolding worldLeft
+      ends-finished l ring′ cells′ e =
+          let w = e ∙ written in
+          let q = ap (λ (x : Carrying). x .queued) w in
+          let u = ap (λ (x : Carrying). x .used) w in
+          let b = ap (λ (x : Carrying). x .back) w in
+          let r = ap (λ (x : Carrying). x .ring) w in
+          let c = ap (λ (x : Carrying). x .cells) w in
+          let m = front-known s ring (g .block) (k .last) (g .head) (g .used) (k .front-read) .remembers in
+          rw (step-room, passed) (rw (q, u, b, evaluated-as, counted, m), r, c)
 
-two-fronts : (a b : Bool) (u v : Refusal) (o : FrontAnswer) (k : Taken → StepEnd)
-    → cond a (cond b (afterFront o k) (refused u)) (refused v) ≡ afterFront (cond a (cond b o (P.Refused u)) (P.Refused v)) k
-two-fronts true true u v o k = refl
-two-fronts true false u v o k = refl
-two-fronts false b u v o k = refl
-
-pub step-by : (tape : Bool) (w : World) (vs : List ℕ) → soundRecord (length (w .ring)) (w .state) ≡ true
-    → stepWith tape w vs ≡ afterFront (frontAnswer (w .state) (w .ring) (length (w .cells))) (afterTaking tape w vs)
-unfolding stepWith unless frontAnswer
-step-by tape w vs h =
-    let s = w .state in
-    cond-yes (soundRecord (length (w .ring)) s) _ _ h
-    ∙ ap (λ (e : StepEnd). cond (leb (pixelCount (s .chosen)) (length (w .cells))) (cond (ltb (s .taken) (s .queued)) e (refused R.Empty)) (refused R.Cells))
-    (front-taken-as tape w vs (frontOf s (w .ring)))
-    ∙ two-fronts (leb (pixelCount (s .chosen)) (length (w .cells))) (ltb (s .taken) (s .queued)) R.Empty R.Cells (frontAs (frontOf s (w .ring))) (afterTaking tape w vs)
-
--- what is known once the front block is read
-front-taken : (t : Taken) (f : Front) → frontAs t ≡ P.At f → t ≡ T.Front (f .block) (f .last) (f .head) (f .used)
-front-taken (T.Front b last head used) f e = let k : record { block = b; last = last; head = head; used = used } ≡ f = cc in rw (← k)
-front-taken T.Damaged f e = let z : _≡_ {A = ℕ} 0 1 = cc in absurd (omega arith)
-front-taken T.Outside f e = let z : _≡_ {A = ℕ} 0 1 = cc in absurd (omega arith)
-
-two-at : (a b : Bool) (u v : Refusal) (o : FrontAnswer) (f : Front) → cond a (cond b o (P.Refused u)) (P.Refused v) ≡ P.At f → (a ≡ true) × (b ≡ true) × (o ≡ P.At f)
-two-at true true u v o f e = (refl, refl, e)
-two-at true false u v o f e = let z : _≡_ {A = ℕ} 0 1 = cc in absurd (omega arith)
-two-at false b u v o f e = let z : _≡_ {A = ℕ} 0 1 = cc in absurd (omega arith)
-
-pub begun-of : (s : State) (ring cells : List ℕ) (o : FrontAnswer) (f : Front) → soundRecord (length ring) s ≡ true → o ≡ frontAnswer s ring (length cells) → o ≡ P.At f → Begun s ring cells f
-unfolding frontAnswer
-begun-of s ring cells o f r e k =
-    let h = two-at (leb (pixelCount (s .chosen)) (length cells)) (ltb (s .taken) (s .queued)) R.Empty R.Cells (frontAs (frontOf s ring)) f (sym e ∙ k) in
-    record { sound-record = r; cells-enough = h .0; not-empty = h .1; front-read = front-taken (frontOf s ring) f (h .2) }
-
-pub step-begun : (tape : Bool) (s : State) (ring cells vs : List ℕ) (f : Front) → Begun s ring cells f
-    → stepWith tape (worldOf s ring cells) vs ≡ afterTaking tape (worldOf s ring cells) vs (T.Front (f .block) (f .last) (f .head) (f .used))
-unfolding stepWith unless
-step-begun tape s ring cells vs f b = rw (b .sound-record, b .cells-enough, b .not-empty, b .front-read)
-
-pub step-refused : (tape : Bool) (s : State) (ring cells vs : List ℕ) (o : FrontAnswer) (why : Refusal) → soundRecord (length ring) s ≡ true → o ≡ frontAnswer s ring (length cells) → o ≡ P.Refused why
-    → stepWith tape (worldOf s ring cells) vs ≡ refused why
-step-refused tape s ring cells vs o why h e k = step-by tape (worldOf s ring cells) vs h ∙ ap (λ (x : FrontAnswer). afterFront x (afterTaking tape (worldOf s ring cells) vs)) (sym e ∙ k)
+-- THE ANSWERS
 
 -- a refused step leaves all as it was
 pub ends-refused : (w : World) (e : StepEnd) (why : Refusal) → e ≡ refused why → EndsAs w e (S.Refused why (w .state)) (w .ring) (w .cells)
 ends-refused w e why h = rw h (refl, refl, refl)
 
--- a damaged record is refused
-pub ends-damaged : (tape : Bool) (s : State) (ring cells vs : List ℕ) → soundRecord (length ring) s ≡ false
-    → EndsAs (worldOf s ring cells) (stepWith tape (worldOf s ring cells) vs) (S.Refused R.Damaged s) ring cells
-unfolding stepWith unless
-ends-damaged tape s ring cells vs h = ends-refused (worldOf s ring cells) (stepWith tape (worldOf s ring cells) vs) R.Damaged (cond-no (soundRecord (length ring) s) _ _ h)
+module _ (tape : Bool) (s : State) (ring cells vs : List ℕ) (held : LastHeld (s .front)) (d : Decision)
+    (is-d : d ≡ decisionOf (s .chosen) (soundRecord (length ring) s) (ltb (s .taken) (s .queued)) (frontOf s ring) cells tape vs) where
+  decided : Decides tape s ring cells vs d
+  decided = rw is-d (decides tape s ring cells vs)
 
--- the block's check, and what follows
-module _ (tape : Bool) (s : State) (ring cells vs : List ℕ) (f : Front) (b : Begun s ring cells f) (n : ℕ) (is-n : n ≡ length (childrenOf (s .chosen) (f .block)))
-    (k : Check) (is-k : k ≡ blockCheck (s .chosen) (f .block) cells n (length vs) tape) where
-  begun-by : stepWith tape (worldOf s ring cells) vs ≡ afterCheck k (judged (worldOf s ring cells) (f .block) (f .last) (f .head) (f .used) (take n vs))
-  begun-by =
-      step-begun tape s ring cells vs f b
-      ∙ front-taken-by tape (worldOf s ring cells) vs (f .block) (f .last) (f .head) (f .used) n is-n
-      ∙ ap (λ (x : Check). afterCheck x (judged (worldOf s ring cells) (f .block) (f .last) (f .head) (f .used) (take n vs))) (sym is-k)
-
-  both-passed : k ≡ C.Passed → (blockSound (s .chosen) cells (f .block) ≡ true) × (enoughVerdicts tape n (length vs) ≡ true)
-  unfolding blockCheck
-  both-passed e = two-passed (blockSound (s .chosen) cells (f .block)) (enoughVerdicts tape n (length vs)) R.Verdicts R.Damaged (sym is-k ∙ e)
+  -- what the room's check asks
+  pub room-asked : RoomAsked (s .queued) (length ring) d
+  room-asked = go d decided
     where
-      two-passed : (x y : Bool) (v d : Refusal) → cond x (cond y C.Passed (C.Refused v)) (C.Refused d) ≡ C.Passed → (x ≡ true) × (y ≡ true)
-      two-passed true true v d e = (refl, refl)
-      two-passed true false v d e = let z : _≡_ {A = ℕ} 0 1 = cc in absurd (omega arith)
-      two-passed false y v d e = let z : _≡_ {A = ℕ} 0 1 = cc in absurd (omega arith)
+      go : (d : Decision) → Decides tape s ring cells vs d → RoomAsked (s .queued) (length ring) d
+      go (D.Go g) k = (sound-record (length ring) s (k .sound-record) .numbers, in-ring tape s ring cells vs g k, four tape s ring cells vs g k)
+      go (D.Refused why) k = tt
 
-  pub block-fits : k ≡ C.Passed → n ≤ length vs
-  block-fits e = go tape (both-passed e .1)
+  pub four-asked : FourIn d
+  four-asked = go d decided
     where
-      go : (t : Bool) → enoughVerdicts t n (length vs) ≡ true → n ≤ length vs
-      go true h = leb-true n (length vs) h
-      go false h = omega (arith, eqb-true (length vs) n h)
+      go : (d : Decision) → Decides tape s ring cells vs d → FourIn d
+      go (D.Go g) k = four tape s ring cells vs g k
+      go (D.Refused why) k = tt
 
-  pub block-passed : k ≡ C.Passed → blockSound (s .chosen) cells (f .block) ≡ true
-  block-passed e = both-passed e .0
+  module _ (c : Check) (is-c : c ≡ roomCheckOf (s .chosen) (s .queued) (s .back) (length ring) d) where
+    pub step-refused : (why : Refusal) → c ≡ C.Refused why
+        → EndsAs (worldOf s ring cells) (stepWith tape (worldOf s ring cells) vs) (S.Refused why s) ring cells
+    step-refused why e = ends-refused (worldOf s ring cells) (stepWith tape (worldOf s ring cells) vs) why (go d decided (sym is-c ∙ e))
+      where
+        go : (d : Decision) → Decides tape s ring cells vs d → roomCheckOf (s .chosen) (s .queued) (s .back) (length ring) d ≡ C.Refused why
+            → stepWith tape (worldOf s ring cells) vs ≡ refused why
+        go (D.Go g) k f = step-room tape s ring cells vs g k held ∙ ap (afterCheck tape s ring cells vs g k held) f
+        go (D.Refused r) k f = let z : r ≡ why = cc in k ∙ ap refused z
 
-  pub block-refused : (why : Refusal) → k ≡ C.Refused why → EndsAs (worldOf s ring cells) (stepWith tape (worldOf s ring cells) vs) (S.Refused why s) ring cells
-  block-refused why e = ends-refused (worldOf s ring cells) (stepWith tape (worldOf s ring cells) vs) why (begun-by ∙ ap (λ (x : Check). afterCheck x (judged (worldOf s ring cells) (f .block) (f .last) (f .head) (f .used) (take n vs))) e)
+    -- what carrying out and the answer ask
+    pub passed-numbers : c ≡ C.Passed → (s .queued ≤ 2 ^ 32) × (s .taken ≤ 2 ^ 32)
+    passed-numbers e = go d decided (sym is-c ∙ e)
+      where
+        go : (d : Decision) → Decides tape s ring cells vs d → roomCheckOf (s .chosen) (s .queued) (s .back) (length ring) d ≡ C.Passed
+            → (s .queued ≤ 2 ^ 32) × (s .taken ≤ 2 ^ 32)
+        go (D.Go g) k f = let r = sound-record (length ring) s (k .sound-record) in (r .numbers, omega (arith, r .order, r .numbers))
+        go (D.Refused why) k f = let z : _≡_ {A = ℕ} 0 1 = cc in absurd (omega arith)
 
-  pub block-judged : k ≡ C.Passed → (r : StepAnswer) (ring′ cells′ : List ℕ)
-      → EndsAs (worldOf s ring cells) (judged (worldOf s ring cells) (f .block) (f .last) (f .head) (f .used) (take (n - 0) vs)) r ring′ cells′
-      → EndsAs (worldOf s ring cells) (stepWith tape (worldOf s ring cells) vs) r ring′ cells′
-  block-judged e r ring′ cells′ h =
-      let z : n - 0 ≡ n = omega arith in
-      rw (begun-by ∙ ap (λ (x : Check). afterCheck x (judged (worldOf s ring cells) (f .block) (f .last) (f .head) (f .used) (take n vs))) e) (rw z at h)
-
--- WHAT IS KNOWN BEFORE THE FIRST WRITE
-
-pub block-sound : (s : State) (ring cells : List ℕ) (f : Front) → Begun s ring cells f → blockSound (s .chosen) cells (f .block) ≡ true → sound (s .chosen) (f .block) ≡ true
-block-sound s ring cells f b h =
-    and-both (legalChosen (s .chosen)) (undamaged (s .chosen) (f .block)) (sound-chosen (length ring) s (b .sound-record))
-    (and-left (undamaged (s .chosen) (f .block)) (not (cellDamaged (s .chosen) (f .block) (meanings cells))) h)
-
-module _ (s : State) (ring cells : List ℕ) (f : Front) (b : Begun s ring cells f) where
-  pub front-known : FrontRead ring (s .head) (s .used) (s .chosen .set) (s .front) (f .block) (f .last) (f .head) (f .used)
-  front-known = front-read ring (s .head) (s .used) (s .chosen .set) (s .front) (f .block) (f .last) (f .head) (f .used) (b .front-read)
-
-  pub front-head : f .head < length ring
-  front-head = let r = front-known in rw (r .next-head) (wrapped-in (length ring) (s .head + r .size) (omega (arith, r .head-in, r .size-in, r .used-in)))
-
-  pub front-used : f .used ≤ length ring
-  front-used = let r = front-known in omega (arith, r .next-used, r .used-in)
-
-  pub back-known : indicesKnown (putLast (s .back)) ≡ true
-  unfolding indicesKnown putLast
-  back-known = let r = sound-record (length ring) s (b .sound-record) .back in rw (lt-ltb (s .back .x) (2 ^ 47) (r .x), lt-ltb (s .back .y) (2 ^ 47) (r .y))
-
-  module _ (h : blockSound (s .chosen) cells (f .block) ≡ true) (formats : Formats (f .block)) (own : List ℕ) where
-    pub new-ready : AllReady (s .chosen .set) (newBlocks (worldOf s ring cells) (f .block) own)
-    new-ready =
-        let p = s .chosen in
-        let w = worldOf s ring cells in
-        let ok = block-sound s ring cells f b h in
-        let r = front-known in
-        let k = read-kept (p .set) (s .front) (content ring (s .head) (s .used)) (f .block) (r .size) (r .decodes) in
-        every-also (λ c. (sound p c ≡ true) × CanQueue (p .set) c) (CanQueue (p .set)) (λ c q. q .1) (newBlocks w (f .block) own)
-        (queued-sound p (f .block) ok (outcomesOf w (f .block) own) (block-fine p (f .block) ok k formats))
-
-    module _ (plan : Plan) (is-plan : plan ≡ planOf (s .chosen) (f .block) own (meanings cells)) where
-      facts : PlanFacts (worldOf s ring cells) (f .block) own plan
-      facts = plan-facts (worldOf s ring cells) (f .block) own plan (b .cells-enough) is-plan
-
-      size-is : sizeOf (s .chosen .set) (putLast (s .back)) (plan .at) ≡ length (newBytes (worldOf s ring cells) (f .block) own)
-      size-is =
-          let q = facts .queued in
-          let z : Size = record { total = 0; last = putLast (s .back) } in
-          ap (λ (y : Size). y .total) (sized-is (s .chosen .set) z (plan .at) (rw q new-ready) back-known)
-          ∙ rw q (omega arith)
-
-      -- the checks are the plan's
-      pub judged-by : judged (worldOf s ring cells) (f .block) (f .last) (f .head) (f .used) own
-          ≡ afterCheck (planCheck s (length ring) (f .used) plan)
-          (finished (worldLeft (worldOf s ring cells) (f .block) (f .last) (f .head) (f .used) own) (evaluations (outcomesOf (worldOf s ring cells) (f .block) own)) (length (childrenOf (s .chosen) (f .block))))
-      unfolding judged unless planCheck
-      judged-by =
-          rw (facts .legal, facts .many, size-is)
-          (sym (three-checks (allLegal (childrenOf (s .chosen) (f .block)) own) (leb (s .queued + length (newBlocks (worldOf s ring cells) (f .block) own)) (2 ^ 32))
-          (leb (f .used + length (newBytes (worldOf s ring cells) (f .block) own)) (length ring)) R.Room R.Numbers R.Verdict
-          (finished (worldLeft (worldOf s ring cells) (f .block) (f .last) (f .head) (f .used) own) (evaluations (outcomesOf (worldOf s ring cells) (f .block) own)) (length (childrenOf (s .chosen) (f .block))))))
-
-      -- what is written is the definition's, where the checks pass
-      passed-room : planCheck s (length ring) (f .used) plan ≡ C.Passed
-          → (s .queued + length (newBlocks (worldOf s ring cells) (f .block) own) ≤ 2 ^ 32) × (f .used + length (newBytes (worldOf s ring cells) (f .block) own) ≤ length ring)
-      unfolding planCheck
-      passed-room e =
-          let n = s .queued + plan .queued in
-          let u = f .used + sizeOf (s .chosen .set) (putLast (s .back)) (plan .at) in
-          let t = three-passed (plan .legal) (leb n (2 ^ 32)) (leb u (length ring)) R.Room R.Numbers R.Verdict e in
-          (rw (facts .many) at (leb-true n (2 ^ 32) (t .0)), rw size-is at (leb-true u (length ring) (t .1)))
-        where
-          three-passed : (a b c : Bool) (u v d : Refusal) → cond a (cond b (cond c C.Passed (C.Refused u)) (C.Refused v)) (C.Refused d) ≡ C.Passed → (b ≡ true) × (c ≡ true)
-          three-passed true true true u v d e = (refl, refl)
-          three-passed true true false u v d e = let z : _≡_ {A = ℕ} 0 1 = cc in absurd (omega arith)
-          three-passed true false c u v d e = let z : _≡_ {A = ℕ} 0 1 = cc in absurd (omega arith)
-          three-passed false b c u v d e = let z : _≡_ {A = ℕ} 0 1 = cc in absurd (omega arith)
-
-      pub committed-left : planCheck s (length ring) (f .used) plan ≡ C.Passed
-          → committed (worldOf s ring cells) f (plan .at) ≡ worldLeft (worldOf s ring cells) (f .block) (f .last) (f .head) (f .used) own
-      unfolding worldLeft
-      committed-left e =
-          let room = passed-room e in
-          let q = facts .queued in
-          committed-is (worldOf s ring cells) f (plan .at) (b .cells-enough)
-          (record { head-in = front-head; room = rw q (room .1); numbers = rw q (room .0); cells-enough = b .cells-enough; known = back-known; ready = rw q new-ready })
-          ∙ ap (leftBy (worldOf s ring cells) f) (facts .events)
-
-      -- the answers
-      pub judge-refused : (k : Check) (why : Refusal) → k ≡ planCheck s (length ring) (f .used) plan → k ≡ C.Refused why
-          → EndsAs (worldOf s ring cells) (judged (worldOf s ring cells) (f .block) (f .last) (f .head) (f .used) own) (S.Refused why s) ring cells
-      judge-refused k why e g = ends-refused (worldOf s ring cells) (judged (worldOf s ring cells) (f .block) (f .last) (f .head) (f .used) own) why (judged-by ∙ ap (λ (x : Check). afterCheck x (finished (worldLeft (worldOf s ring cells) (f .block) (f .last) (f .head) (f .used) own) (evaluations (outcomesOf (worldOf s ring cells) (f .block) own)) (length (childrenOf (s .chosen) (f .block))))) (sym e ∙ g))
-
-      pub judge-finished : (k : Check) (r : State) (ring′ cells′ : List ℕ) → k ≡ planCheck s (length ring) (f .used) plan → k ≡ C.Passed
-          → worldOf r ring′ cells′ ≡ committed (worldOf s ring cells) f (plan .at)
-          → EndsAs (worldOf s ring cells) (judged (worldOf s ring cells) (f .block) (f .last) (f .head) (f .used) own) (S.Finished r (plan .evaluations) (plan .count)) ring′ cells′
-      judge-finished k r ring′ cells′ e g c =
-          let j = judged-by ∙ ap (λ (x : Check). afterCheck x (finished (worldLeft (worldOf s ring cells) (f .block) (f .last) (f .head) (f .used) own) (evaluations (outcomesOf (worldOf s ring cells) (f .block) own)) (length (childrenOf (s .chosen) (f .block))))) (sym e ∙ g) in
-          let l : worldOf r ring′ cells′ ≡ worldLeft (worldOf s ring cells) (f .block) (f .last) (f .head) (f .used) own = c ∙ committed-left (sym e ∙ g) in
-          rw j (
-            rw (facts .evals, facts .count) (ap (λ (x : World). S.Finished (x .state) (evaluations (outcomesOf (worldOf s ring cells) (f .block) own)) (length (childrenOf (s .chosen) (f .block)))) l),
-            ap (λ (x : World). x .ring) l,
-            ap (λ (x : World). x .cells) l,
-          )
+    pub step-finished : (l : Behind) (r : StepAnswer) (ring′ cells′ : List ℕ) → c ≡ C.Passed
+        → carryingOf l ring′ cells′ ≡ committedOf (s .chosen) (s .taken) (s .queued) (s .back) ring cells d → r ≡ finishedAs s l d
+        → EndsAs (worldOf s ring cells) (stepWith tape (worldOf s ring cells) vs) r ring′ cells′
+    step-finished l r ring′ cells′ e w f = go d decided (sym is-c ∙ e) w f
+      where
+        go : (d : Decision) → Decides tape s ring cells vs d → roomCheckOf (s .chosen) (s .queued) (s .back) (length ring) d ≡ C.Passed
+            → carryingOf l ring′ cells′ ≡ committedOf (s .chosen) (s .taken) (s .queued) (s .back) ring cells d → r ≡ finishedAs s l d
+            → EndsAs (worldOf s ring cells) (stepWith tape (worldOf s ring cells) vs) r ring′ cells′
+        go (D.Go g) k e w f = rw f (ends-finished tape s ring cells vs g k held e l ring′ cells′ w)
+        go (D.Refused why) k e w f = let z : _≡_ {A = ℕ} 0 1 = cc in absurd (omega arith)

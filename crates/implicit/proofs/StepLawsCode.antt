@@ -1,56 +1,43 @@
--- What the code answers is what the definitions say, by the tests that it makes. Assumes nothing.
+-- The tests that the code makes on the way to a decision are the definitions'. Assumes nothing.
 use mathlib.Core.Path.{_≡_, refl, sym, ap, _∙_}
 use mathlib.Core.Bool.{Bool, true, false, not, _&&_}
-use mathlib.Core.List.{List, [], _∷_}
-use Prim.Native.Nat.{ℕ, _+_, _-_, _*_, _^_, _≤_, _<_}
+use mathlib.Core.List.{List}
+use Prim.Native.Nat.{ℕ, _-_, _≤_, _<_}
 use native.Mathlib.Omega.{arith}
-use native.Mathlib.Numerals.{add-one}
 use lib.Dec.{leb, ltb}
-use lib.ListN.{length, getD, drop, drop-of-length-le}
-use lib.Seq.{drop-cons}
-use borrow.Author.Tests.{le-leb, lt-leb, lt-ltb, le-ltb}
+use lib.ListN.{length, take}
+use borrow.Author.Tests.{le-leb, lt-leb, lt-ltb, le-ltb, leb-true, eqb-true}
 use Rattle.base.proofs.Test.{cases, cond-yes, cond-no}
+use Rattle.refusal.specs.declared.Refusal.{Refusal}
 use Rattle.refusal.specs.declared.Refusal.the-variants as R
-use Rattle.image.specs.declared.Op.the-variants as O
 use Rattle.image.specs.declared.Seen.{Seen}
 use Rattle.image.specs.declared.Seen.the-variants as S
 use Rattle.image.specs.Cell.{meanings, ofKind}
 use Rattle.image.specs.Painting.{seenIf, someSeen}
 use Rattle.image.proofs.BlockLaws.{rectangle-ready}
 use Rattle.queue.specs.declared.Block.{Block}
-use Rattle.queue.specs.declared.Last.{Last}
 use Rattle.queue.specs.declared.Taken.{Taken}
-use Rattle.queue.specs.declared.Measured.{Measured}
-use Rattle.queue.specs.declared.Measured.the-variants as M
-use Rattle.queue.specs.declared.Appended.{Appended}
-use Rattle.queue.specs.declared.Appended.the-variants as A
-use Rattle.queue.specs.Code.{encode}
-use Rattle.queue.specs.Queue.{codable, measured, appended, appendedRing}
-use Rattle.queue.proofs.QueueAnswers.{denied, granted, codable-both}
-use Rattle.queue.proofs.QueueableLaws.{encode-few}
-use Rattle.queue.specs.Block.{asQueued}
+use Rattle.queue.proofs.QueueAnswers.{denied, granted}
 use Rattle.decide.specs.declared.Chosen.{Chosen}
 use Rattle.decide.specs.declared.children.Children.{Children}
-use Rattle.plan.specs.declared.Fate.{Fate}
-use Rattle.plan.specs.declared.Fate.the-variants as F
-use Rattle.plan.specs.declared.Plan.{Plan}
-use Rattle.plan.specs.declared.Planned.{Planned}
+use Rattle.decide.specs.declared.children.Cut.{Cut}
 use Rattle.decide.specs.Damage.{legalChosen, undamaged, cellDamaged, damageSeen}
 use Rattle.decide.specs.Children.{childrenOf, listed}
+use Rattle.decide.specs.ChildAt.{cutOf}
+use Rattle.plan.specs.declared.Judged.{Judged}
+use Rattle.plan.specs.AtOnce.{judgedOf}
 use Rattle.plan.proofs.ChildLaws.{some-child}
 use Rattle.implicit.specs.declared.state.State.{State}
 use Rattle.implicit.specs.declared.state.CallAnswer.the-variants as D
 use Rattle.implicit.specs.declared.state.ChildrenAnswer.{ChildrenAnswer}
-use Rattle.implicit.specs.declared.stepping.Check.the-variants as C
-use Rattle.implicit.specs.declared.stepping.Front.{Front}
-use Rattle.implicit.specs.declared.stepping.FrontAnswer.the-variants as P
-use Rattle.implicit.specs.declared.stepping.Size.{Size}
-use Rattle.implicit.specs.declared.commit.Carried.{Carried}
-use Rattle.implicit.specs.declared.commit.Carried.the-variants as K
-use Rattle.implicit.specs.Record.{pixelCount, soundRecord, putLast}
+use Rattle.implicit.specs.declared.deciding.Check.{Check}
+use Rattle.implicit.specs.declared.deciding.Check.the-variants as C
+use Rattle.implicit.specs.DecisionComputed.{Decision}
+use Rattle.implicit.specs.DecisionComputed as G
+use Rattle.implicit.specs.Record.{pixelCount, soundRecord}
 use Rattle.implicit.specs.Listing.{frontOf, unlisted, listedBlock, listedFrom, childrenListed}
-use Rattle.implicit.specs.Step.{World, worldOf, blockSound, enoughVerdicts}
-use Rattle.implicit.specs.StepComputed.{frontAs, frontAnswer, blockCheck, withCode, sizedBy, sizedAll, sizeOf, planCheck, paintedBlock, markedBy, markedAll, numbered, withCarried, queuedAs, withQueued, carriedBy, carriedAll, takenState, committed}
+use Rattle.implicit.specs.Step.{blockSound, enoughVerdicts}
+use Rattle.implicit.specs.StepComputed.{blockCheck, decisionJudged, decisionOn, decisionFrom, decisionOf}
 
 -- THE LISTING
 
@@ -83,25 +70,6 @@ module _ (s : State) (ring : List ℕ) (t : Bool) (is-t : t ≡ soundRecord (len
   unfolding childrenListed
   list-some h k e = let u : soundRecord (length ring) s ≡ true = sym is-t ∙ granted t h in rw (u, lt-ltb (s .taken) (s .queued) k) e
 
--- THE FRONT BLOCK
-
-module _ (s : State) (ring : List ℕ) (cells n : ℕ) (is-n : n ≡ pixelCount (s .chosen)) where
-  pub front-few : cells < n → P.Refused R.Cells ≡ frontAnswer s ring cells
-  unfolding frontAnswer
-  front-few k = let l : cells < pixelCount (s .chosen) = rw is-n at k in rw (lt-leb (pixelCount (s .chosen)) cells l)
-
-  module _ (k : n ≤ cells) where
-    enough : leb (pixelCount (s .chosen)) cells ≡ true
-    enough = let l : pixelCount (s .chosen) ≤ cells = rw is-n at k in le-leb (pixelCount (s .chosen)) cells l
-
-    pub front-empty : s .queued ≤ s .taken → P.Refused R.Empty ≡ frontAnswer s ring cells
-    unfolding frontAnswer
-    front-empty q = rw (enough, le-ltb (s .taken) (s .queued) q)
-
-    pub front-at : s .taken < s .queued → (k v : Taken) → k ≡ frontOf s ring → k ≡ v → frontAs v ≡ frontAnswer s ring cells
-    unfolding frontAnswer
-    front-at q k v e f = rw (enough, lt-ltb (s .taken) (s .queued) q) (ap frontAs (sym f ∙ e))
-
 -- THE BLOCK
 
 and-false : (a : Bool) → a && false ≡ false
@@ -112,7 +80,8 @@ and-true : (a : Bool) → a && true ≡ a
 and-true true = refl
 and-true false = refl
 
-seen-damage : (p : Chosen) (b : Block) (cells : List ℕ) → leb (pixelCount p) (length cells) ≡ true → damageSeen p b cells ≡ seenIf (cellDamaged p b (meanings cells))
+seen-damage : (p : Chosen) (b : Block) (cells : List ℕ) → leb (pixelCount p) (length cells) ≡ true
+    → damageSeen p b cells ≡ seenIf (cellDamaged p b (meanings cells))
 unfolding someSeen cellDamaged ofKind
 seen-damage p b cells h = let r = rectangle-ready (b .x) (b .y) (p .width) (p .height) (length cells) ∙ h in rw r
 
@@ -128,12 +97,14 @@ module _ (p : Chosen) (b : Block) (cells : List ℕ) (h : leb (pixelCount p) (le
 
   pub fine-as : v ≡ S.No → (n : ℕ) → legalChosen p ≡ true → n ≡ length (childrenOf p b) → ltb 0 n ≡ blockSound p cells b
   fine-as k n l f =
-      cases (cellDamaged p b (meanings cells)) (λ d. (let j : S.No ≡ seenIf true = sym k ∙ as-seen ∙ ap seenIf d in let z : _≡_ {A = ℕ} 0 1 = cc in absurd (omega arith)))
+      cases (cellDamaged p b (meanings cells))
+      (λ d. (let j : S.No ≡ seenIf true = sym k ∙ as-seen ∙ ap seenIf d in let z : _≡_ {A = ℕ} 0 1 = cc in absurd (omega arith)))
       (λ d. rw d (child-undamaged p b n l f ∙ sym (and-true (undamaged p b))))
 
   pub fine-never : {X : Type 0} → v ≡ S.Outside → X
   fine-never k =
-      cases (cellDamaged p b (meanings cells)) (λ d. (let j : S.Outside ≡ seenIf true = sym k ∙ as-seen ∙ ap seenIf d in let z : _≡_ {A = ℕ} 0 1 = cc in absurd (omega arith)))
+      cases (cellDamaged p b (meanings cells))
+      (λ d. (let j : S.Outside ≡ seenIf true = sym k ∙ as-seen ∙ ap seenIf d in let z : _≡_ {A = ℕ} 0 1 = cc in absurd (omega arith)))
       (λ d. (let j : S.Outside ≡ seenIf false = sym k ∙ as-seen ∙ ap seenIf d in let z : _≡_ {A = ℕ} 0 1 = cc in absurd (omega arith)))
 
 module _ (p : Chosen) (b : Block) (cells : List ℕ) (children verdicts : ℕ) (tape t : Bool) (is-t : t ≡ blockSound p cells b) where
@@ -153,117 +124,84 @@ module _ (p : Chosen) (b : Block) (cells : List ℕ) (children verdicts : ℕ) (
     unfolding blockCheck
     check-passed k = sym (cond-yes (blockSound p cells b) _ _ fine ∙ cond-yes (enoughVerdicts tape children verdicts) _ _ (sym is-e ∙ granted e k))
 
--- THE PLAN
+-- THE DECISION
 
-pub measured-few : (set : ℕ) (back : Last) (b : Block) (m : Measured) (count : ℕ) (last : Last) → m ≡ measured set back b → m ≡ M.Bytes count last → count ≤ 83
-unfolding measured
-measured-few set back b m count last e f =
-    cases (codable set back b)
-    (λ k. (let c = codable-both set back b k in
-    let g : M.Bytes (length (encode set back (asQueued set b))) _ ≡ M.Bytes count last = rw k at (sym e ∙ f) in
-    let j : length (encode set back (asQueued set b)) ≡ count = cc in
-    omega (arith, encode-few set back (asQueued set b) (c .0) (c .1))))
-    (λ k. (let g : M.NotCodable ≡ M.Bytes count last = rw k at (sym e ∙ f) in let z : _≡_ {A = ℕ} 0 1 = cc in absurd (omega arith)))
+pub judged-refused : (b : Block) (head used : ℕ) (k : Cut) (j : Judged) (d : Decision) → not (j .legal) ≡ true → d ≡ G.Refused R.Verdict
+    → d ≡ decisionJudged b head used k j
+unfolding decisionJudged
+judged-refused b head used k j d h e = e ∙ sym (cond-no (j .legal) _ _ (denied (j .legal) h))
 
--- each child that is queued takes at most 83 bytes
-sized-few : (set : ℕ) (z : Size) (es : List Planned) → sizedAll set z es .total ≤ z .total + 83 * length es
-unfolding sizedAll
-sized-few set z [] = omega arith
-sized-few set z (e ∷ es) = let r = sized-few set (sizedBy set z (e .block) (e .fate)) es in omega (arith, r, by-fate (e .fate))
-  where
-    code : (m : Measured) → m ≡ measured set (z .last) (e .block) → withCode z m .total ≤ z .total + 83
-    code (M.Bytes count last) h = omega (arith, measured-few set (z .last) (e .block) (M.Bytes count last) count last h refl)
-    code M.NotCodable h = omega arith
+pub judged-gone : (b : Block) (head used : ℕ) (k : Cut) (j : Judged) → not (j .legal) ≡ false
+    → G.Go (record { block = b; head = head; used = used; cut = k; judged = j }) ≡ decisionJudged b head used k j
+unfolding decisionJudged
+judged-gone b head used k j h = sym (cond-yes (j .legal) _ _ (granted (j .legal) h))
 
-    by-fate : (f : Fate) → sizedBy set z (e .block) f .total ≤ z .total + 83
-    by-fate F.Nothing = omega arith
-    by-fate F.Mark = omega arith
-    by-fate F.Queue = code (measured set (z .last) (e .block)) refl
-    by-fate F.GiveUp = omega arith
+pub cut-count : (p : Chosen) (b : Block) (k : Cut) → k ≡ cutOf p b → k .count ≡ length (childrenOf p b)
+unfolding cutOf
+cut-count p b k e = ap (λ (c : Cut). c .count) e
 
-module _ (s : State) (len used : ℕ) (p : Plan) where
-  pub plan-illegal : not (p .legal) ≡ true → C.Refused R.Verdict ≡ planCheck s len used p
-  unfolding planCheck
-  plan-illegal h = rw (denied (p .legal) h)
+-- the decision behind a check of the block
+abbrev after : Check → Decision → Decision
+after C.Passed d = d
+after (C.Refused why) d = G.Refused why
 
-  module _ (h : not (p .legal) ≡ false) where
-    pub plan-many : 4294967296 < s .queued + p .queued → C.Refused R.Numbers ≡ planCheck s len used p
-    unfolding planCheck
-    plan-many k = rw (granted (p .legal) h, lt-leb (s .queued + p .queued) (2 ^ 32) k)
+module _ (p : Chosen) (cells : List ℕ) (tape : Bool) (vs : List ℕ) (b : Block) (head used : ℕ) where
+  abbrev judging : Decision
+  judging = decisionJudged b head used (cutOf p b) (judgedOf p b (cutOf p b) (take (length (childrenOf p b)) vs) cells)
 
-    module _ (k : s .queued + p .queued ≤ 4294967296) (fits : used ≤ len) where
-      abbrev size : ℕ
-      size = sizeOf (s .chosen .set) (putLast (s .back)) (p .at)
+  on-check : decisionOn p cells tape vs b head used ≡ after (blockCheck p b cells (length (childrenOf p b)) (length vs) tape) judging
+  unfolding decisionOn blockCheck
+  on-check =
+      cases (blockSound p cells b)
+      (λ s. cases (enoughVerdicts tape (length (childrenOf p b)) (length vs)) (λ e. rw (s, e)) (λ e. rw (s, e)))
+      (λ s. rw s)
 
-      has-room : used + size ≤ len → C.Passed ≡ planCheck s len used p
-      unfolding planCheck
-      has-room m = rw (granted (p .legal) h, le-leb (s .queued + p .queued) (2 ^ 32) k, le-leb (used + size) len m)
+  module _ (k : Cut) (is-k : k ≡ cutOf p b) (t : Check) (is-t : t ≡ blockCheck p b cells (k .count) (length vs) tape) where
+    by-check : decisionOn p cells tape vs b head used ≡ after t judging
+    by-check =
+        on-check ∙ ap (λ (n : ℕ). after (blockCheck p b cells n (length vs) tape) judging) (sym (cut-count p b k is-k))
+        ∙ ap (λ (x : Check). after x judging) (sym is-t)
 
-      pub plan-roomy : length (p .at) ≡ 4 → 332 ≤ len - used → C.Passed ≡ planCheck s len used p
-      plan-roomy n l = has-room (omega (arith, sized-few (s .chosen .set) (record { total = 0; last = putLast (s .back) }) (p .at)))
+    pub block-refused : (why : Refusal) → t ≡ C.Refused why → (d : Decision) → d ≡ G.Refused why → d ≡ decisionOn p cells tape vs b head used
+    block-refused why e d g = g ∙ sym (by-check ∙ ap (λ (x : Check). after x judging) e)
 
-      module _ (n : ℕ) (is-n : n ≡ size) where
-        pub plan-full : len - used < n → C.Refused R.Room ≡ planCheck s len used p
-        unfolding planCheck
-        plan-full l = let m : len < used + size = omega arith in rw (granted (p .legal) h, le-leb (s .queued + p .queued) (2 ^ 32) k, lt-leb (used + size) len m)
+    pub block-judged : t ≡ C.Passed → (d : Decision) → d ≡ decisionJudged b head used k (judgedOf p b k (take (k .count - 0) vs) cells)
+        → d ≡ decisionOn p cells tape vs b head used
+    block-judged e d g =
+        let z : k .count - 0 ≡ length (childrenOf p b) = omega (arith, cut-count p b k is-k) in
+        (rw (z, is-k) at g) ∙ sym (by-check ∙ ap (λ (x : Check). after x judging) e)
 
-        pub plan-passed : n ≤ len - used → C.Passed ≡ planCheck s len used p
-        plan-passed l = has-room (omega arith)
+enough-few : (tape : Bool) (n m : ℕ) → enoughVerdicts tape n m ≡ true → n ≤ m
+enough-few true n m e = leb-true n m e
+enough-few false n m e = omega (arith, eqb-true m n e)
 
--- CHILD BY CHILD: what is left to do from here is what was to do
+pub block-fits : (p : Chosen) (b : Block) (cells : List ℕ) (n m : ℕ) (tape : Bool) (t : Check) → t ≡ blockCheck p b cells n m tape → t ≡ C.Passed → n ≤ m
+unfolding blockCheck
+block-fits p b cells n m tape t e f =
+    cases (enoughVerdicts tape n m) (λ h. enough-few tape n m h)
+    (λ h. cases (blockSound p cells b)
+    (λ s. (let g : C.Passed ≡ C.Refused R.Verdicts = sym f ∙ e ∙ rw (s, h) in let z : _≡_ {A = ℕ} 0 1 = cc in absurd (omega arith)))
+    (λ s. (let g : C.Passed ≡ C.Refused R.Damaged = sym f ∙ e ∙ rw s in let z : _≡_ {A = ℕ} 0 1 = cc in absurd (omega arith))))
 
-module _ (at : List Planned) (i : ℕ) where
-  here : i < length at → (d : Planned) → drop i at ≡ getD at i d ∷ drop (i + 1) at
-  here h d = rw add-one (drop-cons at i d h)
+pub enough-cells : (p : Chosen) (cells : List ℕ) (n : ℕ) → n ≡ pixelCount p → n ≤ length cells → leb (pixelCount p) (length cells) ≡ true
+enough-cells p cells n e h = let l : pixelCount p ≤ length cells = rw e at h in le-leb (pixelCount p) (length cells) l
 
-  done : length at ≤ i → drop i at ≡ []
-  done h = drop-of-length-le at h
+module _ (p : Chosen) (sound left : Bool) (front : Taken) (cells : List ℕ) (tape : Bool) (vs : List ℕ) (d : Decision) where
+  pub decide-damaged : not sound ≡ true → d ≡ G.Refused R.Damaged → d ≡ decisionOf p sound left front cells tape vs
+  unfolding decisionOf
+  decide-damaged h e = rw (denied sound h) e
 
-  pub sized-on : (set : ℕ) (z r : Size) (d : Planned) → i < length at → r ≡ sizedBy set z (getD at i d .block) (getD at i d .fate) → sizedAll set r (drop (i + 1) at) ≡ sizedAll set z (drop i at)
-  unfolding sizedAll
-  sized-on set z r d h e = rw (here h d, e)
+  module _ (h : not sound ≡ false) (n : ℕ) (is-n : n ≡ pixelCount p) where
+    pub decide-few : length cells < n → d ≡ G.Refused R.Cells → d ≡ decisionOf p sound left front cells tape vs
+    unfolding decisionOf
+    decide-few k e = let l : length cells < pixelCount p = rw is-n at k in rw (granted sound h, lt-leb (pixelCount p) (length cells) l) e
 
-  pub sized-end : (set : ℕ) (z : Size) → length at ≤ i → sizedAll set z (drop i at) ≡ z
-  unfolding sizedAll
-  sized-end set z h = rw (done h)
+    module _ (k : n ≤ length cells) where
+      pub decide-empty : not left ≡ true → d ≡ G.Refused R.Empty → d ≡ decisionOf p sound left front cells tape vs
+      unfolding decisionOf
+      decide-empty m e = rw (granted sound h, enough-cells p cells n is-n k, denied left m) e
 
-  pub marked-on : (p : Chosen) (cells r : List ℕ) (d : Planned) → i < length at → r ≡ markedBy p cells (getD at i d .block) (getD at i d .fate) → markedAll p r (drop (i + 1) at) ≡ markedAll p cells (drop i at)
-  unfolding markedAll
-  marked-on p cells r d h e = rw (here h d, e)
-
-  pub marked-end : (p : Chosen) (cells : List ℕ) → length at ≤ i → markedAll p cells (drop i at) ≡ cells
-  unfolding markedAll
-  marked-end p cells h = rw (done h)
-
-  pub carried-on : (from : ℕ) (b : Block) (w v : World) (d : Planned) → i < length at → v ≡ carriedBy from b w (getD at i d .block) (getD at i d .fate) → carriedAll from b v (drop (i + 1) at) ≡ carriedAll from b w (drop i at)
-  unfolding carriedAll
-  carried-on from b w v d h e = rw (here h d, e)
-
-  pub carried-end : (from : ℕ) (b : Block) (w : World) → length at ≤ i → carriedAll from b w (drop i at) ≡ w
-  unfolding carriedAll
-  carried-end from b w h = rw (done h)
-
--- a child queued, by what the queue answers
-module _ (from : ℕ) (b : Block) (s : State) (ring cells ring′ : List ℕ) (a : Appended) (is-a : a ≡ appended (length ring) (s .head) (s .used) (s .chosen .set) (s .back) b)
-    (is-ring : ring′ ≡ appendedRing ring (s .head) (s .used) (s .chosen .set) (s .back) b) where
-  pub queued-by : (v : Appended) → a ≡ v → queuedAs from b (worldOf s ring cells) ring′ v ≡ withQueued from b (worldOf s ring cells)
-  unfolding withQueued
-  queued-by v e = rw (is-ring, sym e ∙ is-a)
-
-  pub queued-done : (last : Last) (used : ℕ) (cells′ : List ℕ) → a ≡ A.Done last used → cells′ ≡ paintedBlock (s .chosen) b (O.Name from (s .queued)) cells
-      → worldOf (numbered s last used) ring′ cells′ ≡ withQueued from b (worldOf s ring cells)
-  queued-done last used cells′ e g = rw g (queued-by (A.Done last used) e)
-
--- the record that a child leaves, by what is said of it
-pub carried-state : (s n : State) (k v : Carried) → k ≡ v → n ≡ withCarried s v → n ≡ withCarried s k
-carried-state s n k v e f = f ∙ ap (withCarried s) (sym e)
-
-pub carried-more : (s n : State) (k : Carried) → n ≡ withCarried s k → n .queued ≤ s .queued + 1
-carried-more s n (K.Queued last used) e = rw e (omega arith)
-carried-more s n K.Nothing e = rw e (omega arith)
-
--- the marks, the record with the front block taken, and the rest
-pub committed-by : (s : State) (ring cells : List ℕ) (f : Front) (es : List Planned) (marked : List ℕ) (t r : State) (ring′ cells′ : List ℕ) → marked ≡ markedAll (s .chosen) cells es → t ≡ takenState s f
-    → worldOf r ring′ cells′ ≡ carriedAll (s .taken) (f .block) (worldOf t ring marked) es → worldOf r ring′ cells′ ≡ committed (worldOf s ring cells) f es
-unfolding committed
-committed-by s ring cells f es marked t r ring′ cells′ e g h = h ∙ rw (e, g)
+      pub decide-front : not left ≡ false → (t v : Taken) → t ≡ front → t ≡ v → d ≡ decisionFrom p cells tape vs v
+          → d ≡ decisionOf p sound left front cells tape vs
+      unfolding decisionOf
+      decide-front m t v e f g = g ∙ rw (granted sound h, enough-cells p cells n is-n k, granted left m) (ap (decisionFrom p cells tape vs) (sym f ∙ e))

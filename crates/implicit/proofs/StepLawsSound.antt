@@ -6,23 +6,20 @@ use mathlib.Core.List.{List, [], _∷_}
 use Prim.Native.Nat.{ℕ}
 use native.Mathlib.Omega.{arith}
 use lib.ListN.{length}
-use borrow.Author.Tests.{ltb-true, le-leb}
+use borrow.Author.Tests.{ltb-true}
 use Rattle.base.proofs.Test.{and-left}
 use Rattle.queue.specs.declared.Block.{Block}
 use Rattle.queue.specs.declared.Last.{Last}
 use Rattle.queue.specs.Block.{remembered}
-use Rattle.queue.specs.Ring.{content}
 use Rattle.queue.specs.Queue.{memory}
 use Rattle.plan.proofs.ChildLaws.{fine-parameters}
 use Rattle.decide.specs.Damage.{undamaged}
-use Rattle.implicit.specs.declared.stepping.Front.{Front}
-use Rattle.implicit.specs.Record.{pixelCount, soundLast, putLast}
+use Rattle.implicit.specs.Record.{soundLast, putLast}
 use Rattle.implicit.specs.Step.{World, finished, newBlocks, worldLeft, stepWith}
-use Rattle.implicit.specs.StepComputed.{Begun}
 use Rattle.implicit.specs.RunComputed.{SoundByUse}
 use Rattle.implicit.proofs.RecordLaws.{sound-record, record-sound, use-as, sound-last, last-sound, put-last-sound, remembered-sound}
-use Rattle.implicit.proofs.StepLawsKept.{Ready, AllReady, LastHeld, read-held}
-use Rattle.implicit.proofs.StepLaws.{front-known, front-head, new-ready}
+use Rattle.implicit.proofs.StepLawsKept.{Ready, AllReady, LastHeld}
+use Rattle.implicit.proofs.StepLawsFront.{front-known, front-head, new-ready}
 use Rattle.implicit.proofs.StepLawsWent.{Went, went, step-stays}
 
 -- what is remembered of blocks that can be queued is sound
@@ -38,30 +35,17 @@ memory-sound set last [] h r = h
 memory-sound set last (b ∷ q) h r = memory-sound set (remembered b) q (ready-sound set b (r .0)) (r .1)
 
 module _ (tape : Bool) (w : World) (vs : List ℕ) (left : World) (e n : ℕ) (g : Went tape w vs left e n) where
-  abbrev front : Front
-  front = record { block = g .block; last = g .last; head = g .head; used = g .used }
-
-  begun : Begun (w .state) (w .ring) (w .cells) front
-  begun = record {
-    sound-record = g .sound-record;
-    cells-enough = le-leb (pixelCount (w .state .chosen)) (length (w .cells)) (g .cells-enough);
-    not-empty = g .not-empty;
-    front-read = g .front-read;
-  }
-
   last-is : soundLast (g .last) ≡ true
   last-is =
-      rw (front-known (w .state) (w .ring) (w .cells) front begun .remembers)
+      rw (front-known (w .state) (w .ring) (g .block) (g .last) (g .head) (g .used) (g .front-read) .remembers)
       (remembered-sound (w .state .chosen) (g .block) (and-left (undamaged (w .state .chosen) (g .block)) _ (g .undamaged-block)))
 
   module _ (held : LastHeld (w .state .front)) where
     back-is : soundLast (memory (putLast (w .state .back)) (newBlocks w (g .block) (g .own))) ≡ true
     back-is =
-        let r = front-known (w .state) (w .ring) (w .cells) front begun in
-        let f = read-held (w .state .chosen .set) (w .state .front) (content (w .ring) (w .state .head) (w .state .used)) (g .block) (r .size) (r .decodes) held in
         memory-sound (w .state .chosen .set) (putLast (w .state .back)) (newBlocks w (g .block) (g .own))
         (put-last-sound (w .state .back) ∙ last-sound (w .state .back) (sound-record (length (w .ring)) (w .state) (g .sound-record) .back))
-        (new-ready (w .state) (w .ring) (w .cells) front begun (g .undamaged-block) f (g .own))
+        (new-ready (w .state) (w .ring) (g .block) (g .last) (g .head) (g .used) (g .front-read) (w .cells) (g .sound-record) (g .undamaged-block) held (g .own))
 
     went-sound : SoundByUse (length (w .ring)) (worldLeft w (g .block) (g .last) (g .head) (g .used) (g .own) .state)
     unfolding worldLeft
@@ -72,7 +56,7 @@ module _ (tape : Bool) (w : World) (vs : List ℕ) (left : World) (e n : ℕ) (g
           order = omega (arith, ltb-true (w .state .taken) (w .state .queued) (g .not-empty));
           numbers = g .numbers;
           ring = s .ring;
-          head = front-head (w .state) (w .ring) (w .cells) front begun;
+          head = front-head (w .state) (w .ring) (g .block) (g .last) (g .head) (g .used) (g .front-read);
           used = g .room;
           empty = use-as (worldLeft w (g .block) (g .last) (g .head) (g .used) (g .own) .state) u;
           front = sound-last (g .last) last-is;

@@ -1,111 +1,158 @@
-// What a step writes, once all is decided: the cells, the bytes of the new blocks, and the record. The only writer of a step. From the Rust's `refine_impl`.
+// What a step writes, once all is decided: the cells and the bytes of the new blocks. The only writer of a step. From the Rust's `refine_impl`.
 ghost use mathlib.Core.Path.{_≡_};
-ghost use Prim.Native.Nat.{_+_, _^_, _≤_};
-ghost use lib.ListN.{length};
-ghost use Rattle.implicit.specs.Step.{worldOf};
-ghost use Rattle.implicit.specs.StepComputed.{paintedBlock, markedBy, markedAll, takenState, withCarried, withQueued, carriedBy, carriedAll, committed};
+ghost use Prim.Native.Nat.{_^_, _≤_};
+ghost use Rattle.decide.specs.ChildAt.{childOf};
+ghost use Rattle.decide.specs.Turn.{turnedFound};
+ghost use Rattle.implicit.specs.StepComputed.{decisionAs, Four, FourIn, paintedAt, markedChild, markedFor};
+ghost use Rattle.implicit.specs.StepComputed.{carryingOf, withCarried, carriedChild, carriedFor, committed};
+ghost use Rattle.implicit.specs.StepComputed.{committedOf};
+use crate::deciding::Check;
+use crate::deciding::Choice;
+use crate::deciding::Decided;
 use crate::record::put_last;
-use crate::state::State;
-use crate::stepping::Front;
+use coordinate::Coordinate;
 use decide::Chosen;
+use decide::Cut;
+use decide::Found;
+use decide::Outcome;
+use decide::child_of;
+use decide::find_direction;
+use decide::start_of;
 use image::Op;
-use plan::Fate;
-use plan::Plan;
-use plan::Planned;
+use plan::is_incomplete;
+use plan::is_marking;
 use queue::Appended;
 use queue::Block;
 use queue::Last;
 
-// What a child leaves in the record: a queued one is remembered, and so many bytes are used.
+// What queueing children changes in the record: the next number, the bytes used, and what is remembered of the last one queued.
+pub(crate) struct Behind {
+    pub queued: u64,
+    pub used: usize,
+    pub back: Last,
+}
+
+// What a child leaves: a queued one is remembered, and so many bytes are used.
 enum Carried {
     Queued { last: Last, used: usize },
     Nothing,
 }
 
-// Carries the plan out: the cells' marks in order, then the children that are queued or find no direction, in order.
+// Carries the step out: the cells' marks in order, then the children that are queued or find no direction, in order. Cells that name block `from` or a later
+// one name what is queued over them. A refused step is not handed in.
 pub(crate) fn commit(
-    s: State,
+    p: Chosen,
+    from: u64,
+    queued: u64,
+    back: Last,
     ring: &mut [u8],
     cells: &mut [u64],
-    front: Front,
-    plan: Plan,
-) -> State
-    requires { ⌜ (s .queued ≤ 2 ^ 32) × (s .taken ≤ 2 ^ 32) × (length (plan .at) ≡ 4) ⌝ }
-    ensures { λ r. ⌜ worldOf r (now (ring .exit)) (now (cells .exit)) ≡ committed (worldOf s (now (ring .entry)) (now (cells .entry))) front (plan .at) ⌝ }
+    d: Choice,
+) -> Behind
+    requires { ⌜ (queued ≤ 2 ^ 32) × FourIn (decisionAs d) ⌝ }
+    ensures { λ r. ⌜ carryingOf r (now (ring .exit)) (now (cells .exit)) ≡ committedOf p from queued back (now (ring .entry)) (now (cells .entry)) (decisionAs d) ⌝ }
 {
-    mark_children(s.chosen, cells, plan);
-    let next = with_front_taken(s, front);
-    carry_children(next, ring, cells, s.taken, front.block, plan)
-}
-
-fn mark_children(p: Chosen, cells: &mut [u64], plan: Plan)
-    requires { ⌜ length (plan .at) ≡ 4 ⌝ }
-    ensures { λ _. ⌜ now (cells .exit) ≡ markedAll p (now (cells .entry)) (plan .at) ⌝ }
-{
-    for i in 0..4 {
-        let e = plan.at[i];
-        mark_child(p, cells, e);
+    let check = d.check;
+    match check {
+        Check::Passed => carry_out(p, from, queued, back, ring, cells, d.decided),
+        Check::Refused(_) => Behind {
+            queued,
+            used: 0,
+            back,
+        },
     }
 }
 
-fn mark_child(p: Chosen, cells: &mut [u64], e: Planned)
-    ensures { λ _. ⌜ now (cells .exit) ≡ markedBy p (now (cells .entry)) (e .block) (e .fate) ⌝ }
+// The marks first, since giving up is to outlast them.
+fn carry_out(
+    p: Chosen,
+    from: u64,
+    queued: u64,
+    back: Last,
+    ring: &mut [u8],
+    cells: &mut [u64],
+    g: Decided,
+) -> Behind
+    requires { ⌜ (queued ≤ 2 ^ 32) × Four g ⌝ }
+    ensures { λ r. ⌜ carryingOf r (now (ring .exit)) (now (cells .exit)) ≡ committed p from queued back (now (ring .entry)) (now (cells .entry)) g ⌝ }
 {
-    let fate = e.fate;
-    match fate {
-        Fate::Nothing => {}
-        Fate::Mark => {
-            let b = e.block;
-            paint_block(p, cells, b, Op::Mark)
-        }
-        Fate::Queue => {}
-        Fate::GiveUp => {}
+    mark_children(p, cells, g);
+    carry_children(p, from, queued, back, ring, cells, g)
+}
+
+fn mark_children(p: Chosen, cells: &mut [u64], g: Decided)
+    requires { ⌜ Four g ⌝ }
+    ensures { λ _. ⌜ now (cells .exit) ≡ markedFor p (now (cells .entry)) g ⌝ }
+{
+    let b = g.block;
+    let k = g.cut;
+    let j = g.judged;
+    for i in 0..k.count {
+        let e = j.at[i];
+        let o = e.outcome;
+        mark_child(p, cells, b, k, i, o);
     }
 }
 
-// Changes every cell that the block covers.
-fn paint_block(p: Chosen, cells: &mut [u64], b: Block, op: Op)
-    ensures { λ _. ⌜ now (cells .exit) ≡ paintedBlock p b op (now (cells .entry)) ⌝ }
+fn mark_child(p: Chosen, cells: &mut [u64], b: Block, k: Cut, i: usize, o: Outcome)
+    ensures { λ _. ⌜ now (cells .exit) ≡ markedChild p (now (cells .entry)) (childOf k b i) o ⌝ }
 {
-    let r = image::rectangle(b.x, b.y, p.width, p.height);
+    if !is_marking(o) {
+        return;
+    }
+    let c = child_of(k, b, i);
+    paint_at(p, cells, c.x, c.y, Op::Mark);
+}
+
+// Changes every cell that a block at these coordinates covers.
+fn paint_at(p: Chosen, cells: &mut [u64], x: Coordinate, y: Coordinate, op: Op)
+    ensures { λ _. ⌜ now (cells .exit) ≡ paintedAt p x y op (now (cells .entry)) ⌝ }
+{
+    let r = image::rectangle(x, y, p.width, p.height);
     image::paint(cells, p.width, p.height, r, op);
 }
 
-// The record once the front block is taken, with all that it remembers put.
-fn with_front_taken(s: State, front: Front) -> State
-    requires { ⌜ s .taken ≤ 2 ^ 32 ⌝ }
-    ensures { λ r. ⌜ r ≡ takenState s front ⌝ }
-{
-    let chosen = s.chosen;
-    let last = front.last;
-    State {
-        chosen,
-        taken: s.taken + 1,
-        queued: s.queued,
-        len: s.len,
-        head: front.head,
-        used: front.used,
-        front: last,
-        back: put_last(s.back),
-    }
-}
-
-// Cells that name block `from` or a later one name what is queued over them.
+// The incomplete children in order, each queued behind the one before it.
 fn carry_children(
-    s: State,
+    p: Chosen,
+    from: u64,
+    queued: u64,
+    back: Last,
     ring: &mut [u8],
     cells: &mut [u64],
-    from: u64,
-    parent: Block,
-    plan: Plan,
-) -> State
-    requires { ⌜ (s .queued ≤ 2 ^ 32) × (length (plan .at) ≡ 4) ⌝ }
-    ensures { λ r. ⌜ worldOf r (now (ring .exit)) (now (cells .exit)) ≡ carriedAll from parent (worldOf s (now (ring .entry)) (now (cells .entry))) (plan .at) ⌝ }
+    g: Decided,
+) -> Behind
+    requires { ⌜ (queued ≤ 2 ^ 32) × Four g ⌝ }
+    ensures { λ r. ⌜ carryingOf r (now (ring .exit)) (now (cells .exit)) ≡ carriedFor p from queued back (now (ring .entry)) (now (cells .entry)) g ⌝ }
 {
-    let mut next = s;
-    for i in 0..4 {
-        let e = plan.at[i];
-        match carry_child(next, ring, cells, from, parent, e) {
+    let b = g.block;
+    let k = g.cut;
+    let j = g.judged;
+    let head = g.head;
+    let start = start_of(p, b, j.incomplete);
+    let mut next = Behind {
+        queued,
+        used: g.used,
+        back: put_last(back),
+    };
+    for i in 0..k.count {
+        let e = j.at[i];
+        let o = e.outcome;
+        match carry_child(
+            p,
+            from,
+            start,
+            next.queued,
+            next.used,
+            next.back,
+            ring,
+            head,
+            cells,
+            b,
+            k,
+            i,
+            o,
+        ) {
             Carried::Queued { last, used } => {
                 next.queued = next.queued + 1;
                 next.used = used;
@@ -117,66 +164,44 @@ fn carry_children(
     next
 }
 
+// An incomplete child is queued under the next number, or, if it finds no direction, all cells of its parent are given up, True ones too.
 fn carry_child(
-    s: State,
-    ring: &mut [u8],
-    cells: &mut [u64],
+    p: Chosen,
     from: u64,
-    parent: Block,
-    e: Planned,
+    start: u16,
+    to: u64,
+    used: usize,
+    back: Last,
+    ring: &mut [u8],
+    head: usize,
+    cells: &mut [u64],
+    b: Block,
+    k: Cut,
+    i: usize,
+    o: Outcome,
 ) -> Carried
-    ensures { λ r. ⌜ worldOf (withCarried s r) (now (ring .exit)) (now (cells .exit)) ≡ carriedBy from parent (worldOf s (now (ring .entry)) (now (cells .entry))) (e .block) (e .fate) ⌝ }
+    ensures { λ r. ⌜ withCarried to used back r (now (ring .exit)) (now (cells .exit)) ≡ carriedChild p from (turnedFound p start) head b to used back (now (ring .entry)) (now (cells .entry)) (childOf k b i) o ⌝ }
 {
-    let fate = e.fate;
-    match fate {
-        Fate::Nothing => Carried::Nothing,
-        Fate::Mark => Carried::Nothing,
-        Fate::Queue => {
-            let b = e.block;
-            queue_child(s, ring, cells, from, b)
-        }
-        Fate::GiveUp => {
-            let p = s.chosen;
-            give_up(p, cells, parent)
-        }
+    if !is_incomplete(o) {
+        return Carried::Nothing;
     }
-}
-
-// All cells of the parent, True ones too.
-fn give_up(p: Chosen, cells: &mut [u64], parent: Block) -> Carried
-    ensures { λ r. ⌜ (r ≡ Carried.Nothing) × (now (cells .exit) ≡ paintedBlock p parent Op.GiveUp (now (cells .entry))) ⌝ }
-{
-    paint_block(p, cells, parent, Op::GiveUp);
-    Carried::Nothing
-}
-
-// The child has the next number.
-fn queue_child(s: State, ring: &mut [u8], cells: &mut [u64], from: u64, b: Block) -> Carried
-    ensures { λ r. ⌜ worldOf (withCarried s r) (now (ring .exit)) (now (cells .exit)) ≡ withQueued from b (worldOf s (now (ring .entry)) (now (cells .entry))) ⌝ }
-{
-    let p = s.chosen;
-    let name = Op::Name { from, to: s.queued };
-    let back = s.back;
-    match queue::append(ring, s.head, s.used, p.set, back, b) {
-        Appended::Done { last, used } => {
-            paint_block(p, cells, b, name);
-            // field by field, so that no bytes between the fields are copied
-            let m = last.m;
-            let n = last.n;
-            let theta = last.theta;
-            let t = last.t;
-            let kept = Last {
-                x: last.x,
-                y: last.y,
-                m,
-                n,
-                theta,
-                t,
-            };
-            Carried::Queued { last: kept, used }
+    let mut c = child_of(k, b, i);
+    match find_direction(p, c, start) {
+        Found::At(dir) => {
+            c.dir = dir;
+            match queue::append(ring, head, used, p.set, back, c) {
+                Appended::Done { last, used: more } => {
+                    paint_at(p, cells, c.x, c.y, Op::Name { from, to });
+                    Carried::Queued { last, used: more }
+                }
+                Appended::NoRoom => Carried::Nothing,
+                Appended::NotCodable => Carried::Nothing,
+                Appended::Outside => Carried::Nothing,
+            }
         }
-        Appended::NoRoom => Carried::Nothing,
-        Appended::NotCodable => Carried::Nothing,
-        Appended::Outside => Carried::Nothing,
+        Found::Nothing => {
+            paint_at(p, cells, b.x, b.y, Op::GiveUp);
+            Carried::Nothing
+        }
     }
 }

@@ -1,7 +1,9 @@
 // The refinement of implicit graphs: setup, children, step, run, picture, counts and a move of the queue over a record by value, a lent ring and lent cells.
 // Document 01, "Picture and step" and "Numbers of refusal"; from the Rust's graph/implicit.rs. Every entry takes all numbers and buffers, and refuses by number.
 mod commit;
+mod deciding;
 mod first;
+mod fitting;
 mod listing;
 mod record;
 mod room;

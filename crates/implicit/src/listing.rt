@@ -14,7 +14,7 @@ use decide::Children;
 use decide::Chosen;
 use decide::children_of;
 use queue::Block;
-use queue::Taken;
+use queue::Peeked;
 use queue::whole_line;
 use refusal::Refusal;
 
@@ -36,15 +36,14 @@ fn list_front(s: State, ring: &[u8]) -> ChildrenAnswer
     ensures { λ r. ⌜ r ≡ listedFrom s (frontOf s (now (ring .entry))) ⌝ }
 {
     let p = s.chosen;
-    match queue::take(ring, s.head, s.used, p.set, s.front) {
-        Taken::Front {
+    match queue::peek(ring, s.head, s.used, p.set, s.front) {
+        Peeked::Front {
             block,
-            last: _,
             head: _,
             used: _,
         } => list_block(p, block),
-        Taken::Damaged => refuse(Refusal::Damaged),
-        Taken::Outside => refuse(Refusal::Damaged),
+        Peeked::Damaged => refuse(Refusal::Damaged),
+        Peeked::Outside => refuse(Refusal::Damaged),
     }
 }
 
@@ -83,7 +82,7 @@ fn no_children() -> Children
     }
 }
 
-fn no_block() -> Block
+pub(crate) fn no_block() -> Block
     ensures { λ r. ⌜ r ≡ noBlock ⌝ }
 {
     let c = Coordinate { index: 0, rank: 0 };

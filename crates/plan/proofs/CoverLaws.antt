@@ -17,7 +17,7 @@ use Rattle.queue.specs.declared.Block.{Block}
 use Rattle.decide.specs.declared.Chosen.{Chosen}
 use Rattle.decide.specs.Damage.{coveredCells, cellDamaged, damageSeen}
 use Rattle.plan.specs.Plan.{paintedUnder, allTrue}
-use Rattle.plan.specs.AtOnce.{isSeen, trueAsGiven}
+use Rattle.plan.specs.AtOnce.{isSeen, trueAt}
 
 -- does a block cover the pixel in column px that is the py-th from the bottom?
 abbrev pub covers : Block → ℕ → ℕ → Bool
@@ -75,13 +75,17 @@ seen-if : (b : Bool) → isSeen (seenIf b) ≡ b
 seen-if true = refl
 seen-if false = refl
 
+-- is every cell True that the child covers?
+abbrev pub trueAsGiven : Chosen → Block → List ℕ → Bool
+trueAsGiven p c cells = trueAt p (c .x) (c .y) cells
+
 module _ (p : Chosen) (c : Block) (cells : List ℕ) (enough : p .width * p .height ≤ length cells) where
   ready : pictureReady (p .width) (p .height) (rectangleOf (c .x) (c .y) (p .width) (p .height)) (length cells) ≡ true
   ready = rectangle-ready (c .x) (c .y) (p .width) (p .height) (length cells) ∙ le-leb (p .width * p .height) (length cells) enough
 
   -- with cells for all pixels it sees what is there
   pub given-true : trueAsGiven p c cells ≡ allTrue p c (meanings cells)
-  unfolding trueAsGiven allTrue allTrueSeen
+  unfolding trueAt allTrue allTrueSeen
   given-true = ap isSeen (cond-yes (pictureReady (p .width) (p .height) (rectangleOf (c .x) (c .y) (p .width) (p .height)) (length cells)) _ _ ready) ∙ seen-if (everyOf isMarked (coveredCells p c (meanings cells)))
 
   pub given-damaged : damageSeen p c cells ≡ seenIf (cellDamaged p c (meanings cells))

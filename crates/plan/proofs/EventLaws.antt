@@ -1,13 +1,12 @@
--- Laws of a step's events: those of the plan, how many there are, what is queued by them, and the cells after them. Assumes nothing.
+-- Laws of a step's events: how many there are, what is queued by them, and the cells after them. Assumes nothing.
 use mathlib.Core.Path.{_≡_, refl, sym, ap, ap₂, _∙_}
 use mathlib.Core.Bool.{Bool, true, false, cond, true≢false, false≢true}
 use mathlib.Core.List.{List, [], _∷_, _++_, map, Sublistᴰ, Sublistᴰ·slnil, Sublistᴰ·cons, Sublistᴰ·cons-cons, Sublistᴰ·nil-sublist}
-use Prim.Native.Nat.{ℕ, zero, suc, _+_, _-_, _*_, _/_, _%_, _≤_}
+use Prim.Native.Nat.{ℕ, suc, _+_, _-_, _*_, _/_, _%_, _≤_}
 use native.Mathlib.Omega.{arith}
 use native.Mathlib.Decide.{decLt}
 use native.Mathlib.Nat.{add-zero}
-use lib.ListN.{length, replicate}
-use borrow.Author.Tests.{le-leb}
+use lib.ListN.{length}
 use Rattle.base.specs.Event.{Event, marks, queues, givesUp, queuedBy}
 use Rattle.base.proofs.Test.{by-test}
 use Rattle.base.specs.Lists.{Every}
@@ -21,98 +20,22 @@ use Rattle.image.proofs.RangeLaws.{cell-pixel, beyond-not-held, rectangle-in-pi
 use Rattle.queue.specs.declared.Block.{Block}
 use Rattle.queue.proofs.RoundTrip.{CanQueue}
 use Rattle.decide.specs.declared.Chosen.{Chosen}
-use Rattle.plan.specs.declared.Planned.{Planned}
-use Rattle.decide.specs.declared.turn.Turned.{Turned}
-use Rattle.decide.specs.declared.turn.Turned.the-variants as T
+use Rattle.decide.specs.Turn.{Turned}
+use Rattle.decide.specs.Turn as T
 use Rattle.decide.specs.declared.verdict.Outcome.{Outcome}
-use Rattle.decide.specs.declared.verdict.Outcome.the-variants as O
 use Rattle.decide.specs.Damage.{sound}
 use Rattle.decide.specs.Children.{childrenOf}
 use Rattle.decide.specs.Verdict.{outcomeOf, isMarking, isIncomplete}
 use Rattle.decide.specs.Turn.{turnedTo, turned}
 use Rattle.plan.specs.Plan.{paintedUnder, allTrue, outcomes, evaluations, incompleteCount, markEvents, turnEvent, turnEvents, eventsFor}
-use Rattle.plan.specs.Plan.{cellsAfter, untouched, plannedTurn, plannedAll}
-use Rattle.plan.proofs.StepPlan.{planFrom, planOf, markPlanned, plannedMarks, turnPlanned, plannedTurns}
+use Rattle.plan.specs.Plan.{cellsAfter}
 use Rattle.decide.proofs.VerdictLaws.{cost-of-child}
 use Rattle.decide.proofs.ListingLaws.{children-few}
 use Rattle.plan.proofs.CoverLaws.{covers, Narrower, true-pixels, pixels-true}
 use Rattle.plan.proofs.PlaceLaws.{Lies, lies-narrower, children-lie}
-use Rattle.plan.proofs.PlanLaws.{marks-queue-none}
+use Rattle.plan.proofs.JudgedLaws.{marks-queue-none}
 use Rattle.plan.proofs.ChildLaws.{ChildPlace, Fine, children-placed, children-fine, child-can-queue}
 use Rattle.plan.proofs.QueuedLaws.{TurnsTo, turns, turned-sound, turned-can-queue}
-
--- THE PLAN'S EVENTS
-
-marks-behind : (l : List Planned) (k : ℕ) (b : Block) → plannedMarks (l ++ replicate k (untouched b)) ≡ plannedMarks l
-unfolding plannedMarks
-marks-behind [] zero b = refl
-marks-behind [] (suc k) b = marks-behind [] k b
-marks-behind (e ∷ l) k b = ap (markPlanned (e .block) (e .fate)) (marks-behind l k b)
-
-turns-behind : (l : List Planned) (k : ℕ) (b : Block) → plannedTurns (l ++ replicate k (untouched b)) ≡ plannedTurns l
-unfolding plannedTurns
-turns-behind [] zero b = refl
-turns-behind [] (suc k) b = turns-behind [] k b
-turns-behind (e ∷ l) k b = ap (turnPlanned (e .block) (e .fate)) (turns-behind l k b)
-
-module _ (turn : Block → Turned) where
-  all-marks : (cs : List Block) (os : List Outcome) → plannedMarks (plannedAll turn cs os) ≡ markEvents cs os
-  unfolding plannedMarks plannedAll markEvents
-  all-marks [] os = refl
-  all-marks (c ∷ cs) [] = all-marks cs [] ∙ none cs
-    where
-      none : (l : List Block) → markEvents l [] ≡ []
-      none [] = refl
-      none (d ∷ l) = refl
-  all-marks (c ∷ cs) (O.Skipped ∷ os) = all-marks cs os
-  all-marks (c ∷ cs) (O.False ∷ os) = all-marks cs os
-  all-marks (c ∷ cs) (O.Area ∷ os) = ap (λ (l : List (Event Block)). marks c ∷ l) (all-marks cs os)
-  all-marks (c ∷ cs) (O.Point n ∷ os) = ap (λ (l : List (Event Block)). marks c ∷ l) (all-marks cs os)
-  all-marks (c ∷ cs) (O.Incomplete n ∷ os) = go (turn c) ∙ all-marks cs os
-    where
-      go : (t : Turned) → markPlanned (plannedTurn c t .block) (plannedTurn c t .fate) (plannedMarks (plannedAll turn cs os)) ≡ plannedMarks (plannedAll turn cs os)
-      go (T.To d) = refl
-      go T.Nowhere = refl
-
-  all-turns : (cs : List Block) (os : List Outcome) → plannedTurns (plannedAll turn cs os) ≡ turnEvents turn cs os
-  unfolding plannedTurns plannedAll turnEvents
-  all-turns [] os = refl
-  all-turns (c ∷ cs) [] = all-turns cs [] ∙ none cs
-    where
-      none : (l : List Block) → turnEvents turn l [] ≡ []
-      none [] = refl
-      none (d ∷ l) = refl
-  all-turns (c ∷ cs) (O.Skipped ∷ os) = all-turns cs os
-  all-turns (c ∷ cs) (O.False ∷ os) = all-turns cs os
-  all-turns (c ∷ cs) (O.Area ∷ os) = all-turns cs os
-  all-turns (c ∷ cs) (O.Point n ∷ os) = all-turns cs os
-  all-turns (c ∷ cs) (O.Incomplete n ∷ os) = go (turn c) ∙ ap (λ (l : List (Event Block)). turnEvent (turn c) ∷ l) (all-turns cs os)
-    where
-      go : (t : Turned) → turnPlanned (plannedTurn c t .block) (plannedTurn c t .fate) (plannedTurns (plannedAll turn cs os)) ≡ turnEvent t ∷ plannedTurns (plannedAll turn cs os)
-      go (T.To d) = refl
-      go T.Nowhere = refl
-
-module _ (p : Chosen) (b : Block) (cs : List Block) (os : List Outcome) (vs : List ℕ) where
-  pub plan-marks : plannedMarks (planFrom p b cs os vs .at) ≡ markEvents cs os
-  unfolding planFrom
-  plan-marks =
-      marks-behind (plannedAll (turned p b (incompleteCount os)) cs os) (4 - length (plannedAll (turned p b (incompleteCount os)) cs os)) b ∙ all-marks (turned p b (incompleteCount os)) cs os
-
-  pub plan-turns : plannedTurns (planFrom p b cs os vs .at) ≡ turnEvents (turned p b (incompleteCount os)) cs os
-  unfolding planFrom
-  plan-turns =
-      turns-behind (plannedAll (turned p b (incompleteCount os)) cs os) (4 - length (plannedAll (turned p b (incompleteCount os)) cs os)) b ∙ all-turns (turned p b (incompleteCount os)) cs os
-
-  -- what is carried out of a plan are the events of its children's outcomes
-  pub plan-events : plannedMarks (planFrom p b cs os vs .at) ++ plannedTurns (planFrom p b cs os vs .at) ≡ eventsFor p b cs os
-  unfolding eventsFor
-  plan-events = ap₂ _++_ plan-marks plan-turns
-
--- with cells for all pixels a plan is made for the children
-pub planned-children : (p : Chosen) (b : Block) (vs : List ℕ) (l : List Cell) → p .width * p .height ≤ length l
-    → planOf p b vs l ≡ planFrom p b (childrenOf p b) (outcomes p l (childrenOf p b) vs) vs
-unfolding planOf
-planned-children p b vs l h = rw (le-leb (p .width * p .height) (length l) h)
 
 -- HOW MUCH IT IS
 
@@ -127,25 +50,6 @@ evaluations-few p l (c ∷ cs) (v ∷ vs) =
 -- a step costs 24 evaluations at most
 pub step-evaluations : (p : Chosen) (b : Block) (l : List Cell) (vs : List ℕ) → evaluations (outcomes p l (childrenOf p b) vs) ≤ 24
 step-evaluations p b l vs = omega (arith, evaluations-few p l (childrenOf p b) vs, children-few p b)
-
-queued-few : (turn : Block → Turned) (cs : List Block) (os : List Outcome) → length (queuedBy (turnEvents turn cs os)) ≤ length cs
-unfolding turnEvents queuedBy
-queued-few turn [] os = omega arith
-queued-few turn (c ∷ cs) [] = omega arith
-queued-few turn (c ∷ cs) (o ∷ os) =
-    let ih = queued-few turn cs os in
-    by-test (λ l. length (queuedBy l) ≤ suc (length cs)) (isIncomplete o) (turnEvent (turn c) ∷ turnEvents turn cs os) (turnEvents turn cs os) (λ e. go (turn c) ih) (λ e. omega arith)
-  where
-    go : (t : Turned) → length (queuedBy (turnEvents turn cs os)) ≤ length cs → length (queuedBy (turnEvent t ∷ turnEvents turn cs os)) ≤ suc (length cs)
-    go (T.To d) h = omega arith
-    go T.Nowhere h = omega arith
-
--- and queues four blocks at most
-pub step-queues : (p : Chosen) (b : Block) (os : List Outcome) → length (queuedBy (eventsFor p b (childrenOf p b) os)) ≤ 4
-unfolding eventsFor
-step-queues p b os =
-    rw (marks-queue-none (childrenOf p b) os (turnEvents (turned p b (incompleteCount os)) (childrenOf p b) os))
-    (omega (arith, queued-few (turned p b (incompleteCount os)) (childrenOf p b) os, children-few p b))
 
 -- WHAT IS MARKED AND QUEUED
 

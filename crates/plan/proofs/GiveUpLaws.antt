@@ -16,8 +16,8 @@ use Rattle.image.specs.Cell.{Cell}
 use Rattle.image.specs.Painting.{painted}
 use Rattle.queue.specs.declared.Block.{Block}
 use Rattle.decide.specs.declared.Chosen.{Chosen}
-use Rattle.decide.specs.declared.turn.Turned.{Turned}
-use Rattle.decide.specs.declared.turn.Turned.the-variants as T
+use Rattle.decide.specs.Turn.{Turned}
+use Rattle.decide.specs.Turn as T
 use Rattle.decide.specs.declared.verdict.Outcome.{Outcome}
 use Rattle.decide.specs.Damage.{sound}
 use Rattle.decide.specs.Children.{childrenOf}
@@ -26,7 +26,7 @@ use Rattle.decide.specs.Turn.{turned}
 use Rattle.plan.specs.Plan.{paintedUnder, incompleteCount, markEvents, turnEvent, turnEvents, eventsFor, cellsAfter}
 use Rattle.plan.proofs.CoverLaws.{Narrower}
 use Rattle.plan.proofs.PlaceLaws.{Lies, lies-narrower, children-lie}
-use Rattle.plan.proofs.PlanLaws.{marks-queue-none}
+use Rattle.plan.proofs.JudgedLaws.{marks-queue-none}
 use Rattle.plan.proofs.QueuedLaws.{SameRectangle, nowhere-same}
 use Rattle.plan.proofs.EventLaws.{each-queued, turned-narrower, cells-append, give-up-order}
 

@@ -19,9 +19,9 @@ use Rattle.decide.specs.Damage.{sound}
 use Rattle.decide.specs.Children.{childrenOf}
 use Rattle.decide.specs.Verdict.{outcomeOf, isMarking}
 use Rattle.plan.specs.Plan.{paintedUnder, allTrue, outcomes}
-use Rattle.plan.specs.AtOnce.{alike, trueAsGiven, outcomeAtOnce}
+use Rattle.plan.specs.AtOnce.{alike, outcomeAtOnce}
 unfoldable pub use Rattle.plan.specs.AtOnce.{atOnce}
-use Rattle.plan.proofs.CoverLaws.{marks-narrower, marks-apart, given-true}
+use Rattle.plan.proofs.CoverLaws.{trueAsGiven, marks-narrower, marks-apart, given-true}
 use Rattle.plan.proofs.PlaceLaws.{Beside, children-beside}
 
 or-false : (a : Bool) → (a || false) ≡ a

@@ -3,8 +3,7 @@ pub mod CoverLaws
 pub mod PlaceLaws
 pub mod JudgeLaws
 pub mod InOrder
-pub mod StepPlan
-pub mod PlanLaws
+pub mod JudgedLaws
 pub mod ChildLaws
 pub mod QueuedLaws
 pub mod EventLaws

@@ -28,7 +28,7 @@ use Rattle.queue.proofs.RoundTrip.{CanQueue}
 use Rattle.decide.specs.declared.Chosen.{Chosen}
 use Rattle.decide.specs.declared.turn.Found.{Found}
 use Rattle.decide.specs.declared.turn.Found.the-variants as F
-use Rattle.decide.specs.declared.turn.Turned.the-variants as T
+use Rattle.decide.specs.Turn as T
 use Rattle.decide.specs.Damage.{undamaged, sound, directionOf, directionRight}
 use Rattle.decide.specs.Children.{quartersOf, beginsInside, keptInside, childrenXY, childrenCut, childrenAlong, childrenOf}
 use Rattle.decide.specs.Turn.{startOf, subdivisibleAlong, searchedFrom, searched, turnedTo, turnedBy, turned}

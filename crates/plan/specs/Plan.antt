@@ -10,12 +10,9 @@ use Rattle.image.specs.Range.{rectangleOf}
 use Rattle.image.specs.Painting.{painted, everyOf}
 use Rattle.queue.specs.declared.Block.{Block}
 use Rattle.decide.specs.declared.Chosen.{Chosen}
-use Rattle.plan.specs.declared.Fate.the-variants as F
-use Rattle.plan.specs.declared.Planned.{Planned}
-use Rattle.decide.specs.declared.turn.Turned.{Turned}
-use Rattle.decide.specs.declared.turn.Turned.the-variants as T
+use Rattle.decide.specs.Turn.{Turned}
+use Rattle.decide.specs.Turn as T
 use Rattle.decide.specs.declared.verdict.Outcome.{Outcome}
-use Rattle.decide.specs.declared.verdict.Outcome.the-variants as O
 use Rattle.decide.specs.Damage.{coveredCells}
 use Rattle.decide.specs.Verdict.{outcomeOf, costOf, isMarking, isIncomplete}
 use Rattle.decide.specs.Turn.{turned}
@@ -73,28 +70,3 @@ cellsAfter p b number new [] l = l
 cellsAfter p b number new (marks c ∷ es) l = cellsAfter p b number new es (paintedUnder p c Op.Mark l)
 cellsAfter p b number new (queues c ∷ es) l = cellsAfter p b number (suc new) es (paintedUnder p c (Op.Name number new) l)
 cellsAfter p b number new (givesUp ∷ es) l = cellsAfter p b number new es (paintedUnder p b Op.GiveUp l)
-
--- THE SAME AS A PLAN, child by child
-
--- a child about which nothing is done
-abbrev pub untouched : Block → Planned
-untouched c = record { block = c; fate = F.Nothing }
-
--- an incomplete child with the direction that it finds
-abbrev pub plannedTurn : Block → Turned → Planned
-plannedTurn c (T.To d) = record { block = d; fate = F.Queue }
-plannedTurn c T.Nowhere = record { block = c; fate = F.GiveUp }
-
--- what is done about a child, by its outcome
-abbrev pub plannedBy : (Block → Turned) → Block → Outcome → Planned
-plannedBy turn c O.Skipped = untouched c
-plannedBy turn c O.False = untouched c
-plannedBy turn c O.Area = record { block = c; fate = F.Mark }
-plannedBy turn c (O.Point place) = record { block = c; fate = F.Mark }
-plannedBy turn c (O.Incomplete tried) = plannedTurn c (turn c)
-
--- all children; nothing is done about those without a verdict
-unfoldable pub plannedAll : (Block → Turned) → List Block → List Outcome → List Planned
-plannedAll turn [] os = []
-plannedAll turn (c ∷ cs) [] = untouched c ∷ plannedAll turn cs []
-plannedAll turn (c ∷ cs) (o ∷ os) = plannedBy turn c o ∷ plannedAll turn cs os

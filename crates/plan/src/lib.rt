@@ -1,96 +1,65 @@
-// The plan of a step: what becomes of each child, decided from the cells as given, before anything is written.
-// Document 01, "Picture and step"; from the Rust's `process_block` and what `refine_impl` does with its answers. There is no ring here, and no cell is written.
+// What becomes of each child under its verdict, decided from the cells as given, before anything is written: only the outcomes are remembered.
+// Document 01, "Picture and step"; from the Rust's `process_block`. There is no ring here, and no cell is written.
 ghost use mathlib.Core.Path.{_≡_};
 ghost use Prim.Native.Nat.{_≤_, _<_, min};
-ghost use lib.ListN.{length};
-ghost use Rattle.plan.specs.AtOnce.{alike, trueAsGiven, outcomeAtOnce, planListed};
-ghost use Rattle.plan.specs.PlanComputed.{fateOf, incompleteOnes, judgedBy, unjudged, turnedPlan, queuedOnes, turnedFrom, unturned};
-ghost use Rattle.decide.specs.Turn.{startOf};
-ghost use Rattle.decide.specs.Verdict.{costOf, isMarking};
+ghost use Rattle.decide.specs.Verdict.{costOf, isMarking, isIncomplete};
+ghost use Rattle.plan.specs.AtOnce.{alikeAlong, trueAt, outcomeAt, judgedOf};
+ghost use Rattle.plan.specs.PlanComputed.{incompleteOnes, judgedBy, unjudged};
+use coordinate::Coordinate;
 use coordinate::PIXEL_RANK;
-use decide::Children;
 use decide::Chosen;
+use decide::Cut;
 use decide::Outcome;
-use decide::Turned;
+use decide::Place;
 use decide::cost_of;
 use decide::is_legal_verdict;
 use decide::judge;
-use decide::start_of;
-use decide::turn_from;
+use decide::place_of;
 use image::Seen;
 use queue::Block;
 use queue::Direction;
 use queue::DirectionAt;
-use queue::direction_at;
 
-// What a step does about a child.
-pub enum Fate {
-    // It is complete, and no cell changes.
-    Nothing,
-    // Its pixels are marked True.
-    Mark,
-    // It is queued.
-    Queue,
-    // It finds no direction, so its parent's cells are given up.
-    GiveUp,
+// The outcome of a child: a struct, since an array in a struct holds structs and no bare enums.
+#[repr(C)]
+pub struct Noted {
+    pub outcome: Outcome,
 }
 
-// A child, turned where it is queued, and what is done about it.
+// The outcomes of the children in order, Skipped in the places behind them; how many are incomplete, the evaluations of them all, whether one marks its
+// pixels, and whether every verdict is legal.
 #[repr(C)]
-pub struct Planned {
-    pub block: Block,
-    pub fate: Fate,
-}
-
-// What a step does about the first `count` of these children, how many of them it queues, the evaluations of them all, and whether every verdict
-// is legal. First the marks in order, then the rest in order.
-#[repr(C)]
-pub struct Plan {
-    pub at: [Planned; 4],
-    pub count: usize,
-    pub queued: usize,
+pub struct Judged {
+    pub at: [Noted; 4],
+    pub incomplete: usize,
     pub evaluations: u64,
+    pub marked: bool,
     pub legal: bool,
 }
 
-// What is to be done about a child, before directions are sought: a struct, since an array in a struct holds structs and no bare enums.
-struct Noted {
-    fate: Fate,
-}
-
-// The children judged so far: incomplete ones are to be queued.
-struct Judged {
-    at: [Noted; 4],
-    incomplete: usize,
-    evaluations: u64,
-    // Whether one of them marks its pixels.
-    marked: bool,
-    legal: bool,
-}
-
-// The plan for children that are listed already: the step's plan, if they are all children of the block and each pixel has a cell.
-// Each is judged by its verdict, in order.
-pub fn plan_children(p: Chosen, b: Block, kids: Children, verdicts: &[u8], cells: &[u64]) -> Plan
-    ensures { λ r. ⌜ r ≡ planListed p b kids (now (verdicts .entry)) (now (cells .entry)) ⌝ }
+// The outcomes of the children of a block that is cut so, each by its verdict, in order.
+pub fn judge_children(p: Chosen, b: Block, k: Cut, verdicts: &[u8], cells: &[u64]) -> Judged
+    ensures { λ r. ⌜ r ≡ judgedOf p b k (now (verdicts .entry)) (now (cells .entry)) ⌝ }
 {
-    let same = is_alike(p, b);
+    let x = b.x;
+    let along = k.along;
+    let same = is_alike(along, x.rank);
     let mut j = judge_none();
-    let n = least(least(kids.count, 4), verdicts.len());
+    let n = least(least(k.count, 4), verdicts.len());
     for i in 0..n {
-        let c = kids.at[i];
+        let c = place_of(k, b.x, b.y, i);
         j = judge_child(p, same, j, i, c, verdicts[i], cells);
     }
-    turn_children(p, b, kids, j)
+    j
 }
 
 // Whether all children cover the same pixels: quarters above level 0 share none.
-fn is_alike(p: Chosen, b: Block) -> bool
-    ensures { λ r. ⌜ r ≡ alike p b ⌝ }
+fn is_alike(along: DirectionAt, rank: u8) -> bool
+    ensures { λ r. ⌜ r ≡ alikeAlong rank along ⌝ }
 {
-    let x = b.x;
-    match direction_at(p.set, b.dir) {
+    match along {
         DirectionAt::Along(d) => match d {
-            Direction::XY => x.rank <= PIXEL_RANK,
+            Direction::XY => rank <= PIXEL_RANK,
             Direction::M => true,
             Direction::N => true,
             Direction::Theta => true,
@@ -111,7 +80,7 @@ fn judge_none() -> Judged
     ensures { λ r. ⌜ r ≡ unjudged ⌝ }
 {
     let e = Noted {
-        fate: Fate::Nothing,
+        outcome: Outcome::Skipped,
     };
     Judged {
         at: [e, e, e, e],
@@ -122,21 +91,21 @@ fn judge_none() -> Judged
     }
 }
 
-// A child with its verdict. It is skipped also where a child before it marked the same pixels.
-fn judge_child(p: Chosen, same: bool, j: Judged, i: usize, c: Block, v: u8, cells: &[u64]) -> Judged
+// A child, by its place, with its verdict. It is skipped also where a child before it marked the same pixels.
+fn judge_child(p: Chosen, same: bool, j: Judged, i: usize, c: Place, v: u8, cells: &[u64]) -> Judged
     requires { ⌜ (i < 4) × (j .evaluations ≤ 18) × (j .incomplete ≤ 3) ⌝ }
-    ensures { λ r. ⌜ r ≡ judgedBy j i (c .x .rank) v (outcomeAtOnce p same (now (cells .entry)) (j .marked) c v) ⌝ }
+    ensures { λ r. ⌜ r ≡ judgedBy j i (c .x .rank) v (outcomeAt p same (now (cells .entry)) (j .marked) (c .x) (c .y) v) ⌝ }
 {
     let x = c.x;
-    let all = is_all_true(p, c, cells) | (same & j.marked);
+    let all = is_all_true(p, x, c.y, cells) | (same & j.marked);
     note_outcome(j, i, x.rank, v, judge(x.rank, v, all))
 }
 
-// Whether every cell that the child covers is True.
-fn is_all_true(p: Chosen, c: Block, cells: &[u64]) -> bool
-    ensures { λ r. ⌜ r ≡ trueAsGiven p c (now (cells .entry)) ⌝ }
+// Whether every cell that a block at these coordinates covers is True.
+fn is_all_true(p: Chosen, x: Coordinate, y: Coordinate, cells: &[u64]) -> bool
+    ensures { λ r. ⌜ r ≡ trueAt p x y (now (cells .entry)) ⌝ }
 {
-    let r = image::rectangle(c.x, c.y, p.width, p.height);
+    let r = image::rectangle(x, y, p.width, p.height);
     match image::are_all_true(cells, p.width, p.height, r) {
         Seen::Yes => true,
         Seen::No => false,
@@ -149,7 +118,7 @@ fn note_outcome(j: Judged, i: usize, rank: u8, v: u8, o: Outcome) -> Judged
     requires { ⌜ (i < 4) × (j .evaluations ≤ 18) × (j .incomplete ≤ 3) × (costOf o ≤ 6) ⌝ }
     ensures { λ r. ⌜ r ≡ judgedBy j i rank v o ⌝ }
 {
-    let e = Noted { fate: fate_of(o) };
+    let e = Noted { outcome: o };
     let mut at = j.at;
     at[i] = e;
     Judged {
@@ -158,18 +127,6 @@ fn note_outcome(j: Judged, i: usize, rank: u8, v: u8, o: Outcome) -> Judged
         evaluations: j.evaluations + cost_of(o),
         marked: j.marked | is_marking(o),
         legal: j.legal & is_legal_verdict(rank, v),
-    }
-}
-
-fn fate_of(o: Outcome) -> Fate
-    ensures { λ r. ⌜ r ≡ fateOf o ⌝ }
-{
-    match o {
-        Outcome::Skipped => Fate::Nothing,
-        Outcome::False => Fate::Nothing,
-        Outcome::Area => Fate::Mark,
-        Outcome::Point(_) => Fate::Mark,
-        Outcome::Incomplete(_) => Fate::Queue,
     }
 }
 
@@ -186,7 +143,8 @@ fn count_incomplete(o: Outcome) -> usize
     }
 }
 
-fn is_marking(o: Outcome) -> bool
+// Whether a child's pixels are marked True.
+pub fn is_marking(o: Outcome) -> bool
     ensures { λ r. ⌜ r ≡ isMarking o ⌝ }
 {
     match o {
@@ -198,71 +156,15 @@ fn is_marking(o: Outcome) -> bool
     }
 }
 
-// Each child that is to be queued looks for its direction.
-fn turn_children(p: Chosen, b: Block, kids: Children, j: Judged) -> Plan
-    requires { ⌜ (length (kids .at) ≡ 4) × (length (j .at) ≡ 4) ⌝ }
-    ensures { λ r. ⌜ r ≡ turnedFrom p (startOf p b (j .incomplete)) (unturned b (kids .count) (j .evaluations) (j .legal)) 0 (kids .at) (j .at) ⌝ }
+// Whether a child is to be queued, or finds no direction.
+pub fn is_incomplete(o: Outcome) -> bool
+    ensures { λ r. ⌜ r ≡ isIncomplete o ⌝ }
 {
-    let start = start_of(p, b, j.incomplete);
-    let mut r = plan_none(b, kids.count, j.evaluations, j.legal);
-    for i in 0..4 {
-        let c = kids.at[i];
-        let e = j.at[i];
-        let fate = e.fate;
-        let t = turn_child(p, start, c, fate);
-        let turned = t.fate;
-        r.at[i] = t;
-        r.queued = r.queued + count_queued(turned);
-    }
-    r
-}
-
-// Before the first direction: every place is written in its turn.
-fn plan_none(block: Block, count: usize, evaluations: u64, legal: bool) -> Plan
-    ensures { λ r. ⌜ r ≡ unturned block count evaluations legal ⌝ }
-{
-    let e = Planned {
-        block,
-        fate: Fate::Nothing,
-    };
-    Plan {
-        at: [e, e, e, e],
-        count,
-        queued: 0,
-        evaluations,
-        legal,
-    }
-}
-
-// A child that is to be queued with the direction that it finds, any other as it is.
-fn turn_child(p: Chosen, start: u16, c: Block, fate: Fate) -> Planned
-    ensures { λ r. ⌜ r ≡ turnedPlan p start c fate ⌝ }
-{
-    match fate {
-        Fate::Nothing => Planned { block: c, fate },
-        Fate::Mark => Planned { block: c, fate },
-        Fate::Queue => match turn_from(p, start, c) {
-            Turned::To(d) => Planned {
-                block: d,
-                fate: Fate::Queue,
-            },
-            Turned::Nowhere => Planned {
-                block: c,
-                fate: Fate::GiveUp,
-            },
-        },
-        Fate::GiveUp => Planned { block: c, fate },
-    }
-}
-
-// 1 for a child that is queued.
-fn count_queued(fate: Fate) -> usize
-    ensures { λ r. ⌜ r ≡ queuedOnes fate ⌝ }
-{
-    match fate {
-        Fate::Nothing => 0,
-        Fate::Mark => 0,
-        Fate::Queue => 1,
-        Fate::GiveUp => 0,
+    match o {
+        Outcome::Skipped => false,
+        Outcome::False => false,
+        Outcome::Area => false,
+        Outcome::Point(_) => false,
+        Outcome::Incomplete(_) => true,
     }
 }

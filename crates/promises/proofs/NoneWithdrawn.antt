@@ -23,8 +23,8 @@ use Rattle.queue.specs.declared.Block.{Block}
 use Rattle.queue.specs.declared.directions.Direction.the-variants as D
 use Rattle.queue.specs.Directions.{inUse}
 use Rattle.decide.specs.declared.Chosen.{Chosen}
-use Rattle.decide.specs.declared.turn.Turned.{Turned}
-use Rattle.decide.specs.declared.turn.Turned.the-variants as Tu
+use Rattle.decide.specs.Turn.{Turned}
+use Rattle.decide.specs.Turn as Tu
 use Rattle.decide.specs.declared.verdict.Outcome.{Outcome}
 use Rattle.decide.specs.Children.{childrenOf}
 use Rattle.decide.specs.Verdict.{isMarking, isIncomplete}

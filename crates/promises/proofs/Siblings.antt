@@ -28,8 +28,8 @@ use Rattle.queue.specs.declared.directions.DirectionAt.the-variants as A
 use Rattle.queue.specs.Directions.{inUse}
 use Rattle.queue.specs.Block.{isInteger, parameterOf, withParameter}
 use Rattle.decide.specs.declared.Chosen.{Chosen}
-use Rattle.decide.specs.declared.turn.Turned.{Turned}
-use Rattle.decide.specs.declared.turn.Turned.the-variants as T
+use Rattle.decide.specs.Turn.{Turned}
+use Rattle.decide.specs.Turn as T
 use Rattle.decide.specs.declared.verdict.Outcome.{Outcome}
 use Rattle.decide.specs.Damage.{sound, directionOf}
 use Rattle.decide.specs.Verdict.{isIncomplete}
@@ -41,7 +41,7 @@ use Rattle.plan.specs.Plan.{incompleteCount, turnEvent, turnEvents, eventsFor}
 use Rattle.plan.proofs.ChildLaws.{direction-in-use}
 use Rattle.plan.proofs.PlaceLaws.{QuarterOf, each-kept, quarters-are}
 use Rattle.plan.proofs.QueuedLaws.{turns}
-use Rattle.plan.proofs.PlanLaws.{marks-queue-none}
+use Rattle.plan.proofs.JudgedLaws.{marks-queue-none}
 use Rattle.plan.proofs.EventLaws.{each-queued}
 use Rattle.implicit.specs.Room.{parameterCount, stepGrowth}
 use Rattle.promises.proofs.CodesFew.{Sibling, extra, counts-four, counts-some, needs}

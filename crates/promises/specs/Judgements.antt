@@ -9,8 +9,8 @@ use Rattle.theory.specs.Colours.{Said, saidFalse, saidTrue, saidUndecided, Chil
 use Rattle.image.specs.Cell.{Cell, meanings}
 use Rattle.queue.specs.declared.Block.{Block}
 use Rattle.decide.specs.declared.Chosen.{Chosen}
-use Rattle.decide.specs.declared.turn.Turned.{Turned}
-use Rattle.decide.specs.declared.turn.Turned.the-variants as T
+use Rattle.decide.specs.Turn.{Turned}
+use Rattle.decide.specs.Turn as T
 use Rattle.decide.specs.declared.verdict.Outcome.{Outcome}
 use Rattle.decide.specs.declared.verdict.Outcome.the-variants as O
 use Rattle.decide.specs.Children.{childrenOf}

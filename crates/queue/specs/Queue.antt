@@ -8,6 +8,8 @@ use lib.Dec.{leb}
 use lib.ListN.{length, drop}
 use Rattle.queue.specs.declared.Block.{Block}
 use Rattle.queue.specs.declared.Last.{Last}
+use Rattle.queue.specs.declared.Peeked.{Peeked}
+use Rattle.queue.specs.declared.Peeked.the-variants as P
 use Rattle.queue.specs.declared.Taken.{Taken}
 use Rattle.queue.specs.declared.Taken.the-variants as T
 use Rattle.queue.specs.declared.Appended.{Appended}
@@ -33,6 +35,12 @@ taken ring head used set front =
     cond (fitsRing (length ring) head used)
     (takenWith (length ring) head used (decode set front (content ring head used)))
     T.Outside
+
+-- the front block that was read, as taken
+abbrev pub takenBy : Peeked → Taken
+takenBy (P.Front b head used) = T.Front b (remembered b) head used
+takenBy P.Damaged = T.Damaged
+takenBy P.Outside = T.Outside
 
 -- a block can be coded if it can be queued and the remembered indices are ones that a block can have
 abbrev pub codable : ℕ → Last → Block → Bool

@@ -3,7 +3,7 @@
 // is a case of its answer that changes nothing.
 ghost use mathlib.Core.Path.{_≡_};
 ghost use lib.ListN.{length};
-ghost use Rattle.queue.specs.Queue.{taken, copied, copiedRing};
+ghost use Rattle.queue.specs.Queue.{taken, takenBy, copied, copiedRing};
 use coordinate::Coordinate;
 use interval::Interval;
 use read::BlockRead;
@@ -72,6 +72,19 @@ pub struct Last {
     pub t: Interval,
 }
 
+// The front block as it is read, and the head and the use once it is taken.
+pub enum Peeked {
+    Front {
+        block: Block,
+        head: usize,
+        used: usize,
+    },
+    // The bytes used are no block's code.
+    Damaged,
+    // The head or the use does not fit the ring.
+    Outside,
+}
+
 // The front block taken: what is remembered of it, and the head and the use afterwards.
 pub enum Taken {
     Front {
@@ -113,12 +126,12 @@ pub enum Copied {
     Outside,
 }
 
-// Takes the front block: its bytes are free once the head and the use that it answers are kept. No byte changes.
-pub fn take(ring: &[u8], head: usize, used: usize, set: u8, front: Last) -> Taken
-    ensures { λ r. ⌜ r ≡ taken (now (ring .entry)) head used set front ⌝ }
+// Reads the front block: its bytes are free once the head and the use that it answers are kept. No byte changes.
+pub fn peek(ring: &[u8], head: usize, used: usize, set: u8, front: Last) -> Peeked
+    ensures { λ r. ⌜ takenBy r ≡ taken (now (ring .entry)) head used set front ⌝ }
 {
     if !fits_ring(ring.len(), head, used) {
-        return Taken::Outside;
+        return Peeked::Outside;
     }
     match read_block(
         older_stretch(ring, head, used),
@@ -126,17 +139,66 @@ pub fn take(ring: &[u8], head: usize, used: usize, set: u8, front: Last) -> Take
         set,
         front,
     ) {
-        BlockRead::Damaged => Taken::Damaged,
+        BlockRead::Damaged => Peeked::Damaged,
         BlockRead::Read { block, count } => {
-            let last = remember(block);
+            let b = by_fields(block);
             let next = move_on(ring.len(), head, count);
-            Taken::Front {
-                block,
-                last,
+            Peeked::Front {
+                block: b,
                 head: next,
                 used: used - count,
             }
         }
+    }
+}
+
+// The block field by field, so that no bytes between the fields are copied.
+fn by_fields(b: Block) -> Block
+    ensures { λ r. ⌜ r ≡ b ⌝ }
+{
+    let x = b.x;
+    let y = b.y;
+    let m = b.m;
+    let n = b.n;
+    let theta = b.theta;
+    let t = b.t;
+    Block {
+        x: Coordinate {
+            index: x.index,
+            rank: x.rank,
+        },
+        y: Coordinate {
+            index: y.index,
+            rank: y.rank,
+        },
+        m,
+        n,
+        theta,
+        t,
+        dir: b.dir,
+    }
+}
+
+// Takes the front block, with what is remembered of it.
+pub fn take(ring: &[u8], head: usize, used: usize, set: u8, front: Last) -> Taken
+    ensures { λ r. ⌜ r ≡ taken (now (ring .entry)) head used set front ⌝ }
+{
+    match peek(ring, head, used, set, front) {
+        Peeked::Front {
+            block,
+            head: next,
+            used: rest,
+        } => {
+            let last = remember(block);
+            Taken::Front {
+                block,
+                last,
+                head: next,
+                used: rest,
+            }
+        }
+        Peeked::Damaged => Taken::Damaged,
+        Peeked::Outside => Taken::Outside,
     }
 }
 

@@ -5,11 +5,8 @@ use Rattle.queue.specs.declared.directions.Direction.the-variants as D
 use Rattle.plan.proofs.is_alike.Statement.{statement}
 use Rattle.plan.proofs.is_alike.Tie as tie
 
-direction-at-requires : tie.Need-direction-at-requires
-direction-at-requires c κs = tt
-
-enum-known-d : tie.Need-enum-known-d
-enum-known-d c = search needs
+enum-known-along : tie.Need-enum-known-along
+enum-known-along c = search needs
 
 enum-told : tie.Need-enum-told
 enum-told c = search needs
@@ -30,29 +27,43 @@ enum-told-6 : tie.Need-enum-told-6
 enum-told-6 c = search needs
 
 returns : tie.Need-returns
-returns c = alike-as (c .before .before .before .before .before .before .before .before .args .p) (c .before .before .before .before .before .before .before .before .args .b) (c .before .before .before .before .before .before .direction-at .result) (c .before .before .before .before .d .given .0 .0) D.XY (c .before .before .before .before .before .before .direction-at .ensures) (c .before .before .before .before .d .given .1) (c .before .enum-told .given .1)
+returns c =
+    let a = c .before .before .before .before .before .args in
+    let k = c .before .before .before .along .given in
+    alike-as (a .rank) (a .along) (k .0 .0) D.XY (k .1) (c .enum-told .given .1)
 
 returns-2 : tie.Need-returns-2
-returns-2 c = alike-as (c .before .before .before .before .before .before .before .args .p) (c .before .before .before .before .before .before .before .args .b) (c .before .before .before .before .before .direction-at .result) (c .before .before .before .d .given .0 .0) D.M (c .before .before .before .before .before .direction-at .ensures) (c .before .before .before .d .given .1) (c .enum-told2 .given .1)
+returns-2 c =
+    let a = c .before .before .before .before .before .args in
+    let k = c .before .before .before .along .given in
+    alike-as (a .rank) (a .along) (k .0 .0) D.M (k .1) (c .enum-told2 .given .1)
 
 returns-3 : tie.Need-returns-3
-returns-3 c = alike-as (c .before .before .before .before .before .before .before .args .p) (c .before .before .before .before .before .before .before .args .b) (c .before .before .before .before .before .direction-at .result) (c .before .before .before .d .given .0 .0) D.N (c .before .before .before .before .before .direction-at .ensures) (c .before .before .before .d .given .1) (c .enum-told3 .given .1)
+returns-3 c =
+    let a = c .before .before .before .before .before .args in
+    let k = c .before .before .before .along .given in
+    alike-as (a .rank) (a .along) (k .0 .0) D.N (k .1) (c .enum-told3 .given .1)
 
 returns-4 : tie.Need-returns-4
-returns-4 c = alike-as (c .before .before .before .before .before .before .before .args .p) (c .before .before .before .before .before .before .before .args .b) (c .before .before .before .before .before .direction-at .result) (c .before .before .before .d .given .0 .0) D.Theta (c .before .before .before .before .before .direction-at .ensures) (c .before .before .before .d .given .1) (c .enum-told4 .given .1)
+returns-4 c =
+    let a = c .before .before .before .before .before .args in
+    let k = c .before .before .before .along .given in
+    alike-as (a .rank) (a .along) (k .0 .0) D.Theta (k .1) (c .enum-told4 .given .1)
 
 returns-5 : tie.Need-returns-5
-returns-5 c = alike-as (c .before .before .before .before .before .before .before .args .p) (c .before .before .before .before .before .before .before .args .b) (c .before .before .before .before .before .direction-at .result) (c .before .before .before .d .given .0 .0) D.T (c .before .before .before .before .before .direction-at .ensures) (c .before .before .before .d .given .1) (c .enum-told5 .given .1)
+returns-5 c =
+    let a = c .before .before .before .before .before .args in
+    let k = c .before .before .before .along .given in
+    alike-as (a .rank) (a .along) (k .0 .0) D.T (k .1) (c .enum-told5 .given .1)
 
 returns-6 : tie.Need-returns-6
-returns-6 c = alike-none (c .before .before .before .before .args .p) (c .before .before .before .before .args .b) (c .before .before .direction-at .result) (c .before .before .direction-at .ensures) (c .enum-told6 .given .1)
+returns-6 c = alike-none (c .before .before .args .rank) (c .before .before .args .along) (c .enum-told6 .given .1)
 
 pub is-alike-spec : {M : Type 1} → statement M
 is-alike-spec =
     tie.close
     (tie.spec
-    direction-at-requires
-    enum-known-d
+    enum-known-along
     enum-told
     enum-told-2
     enum-told-3

@@ -22,13 +22,25 @@ enum-told-3 : tie.Need-enum-told-3
 enum-told-3 c = search needs
 
 returns : tie.Need-returns
-returns c = seen-as (c .before .before .before .before .before .args .p) (c .before .before .before .before .before .args .c) (now (c .before .before .before .before .before .args .cells)) (c .before .before .before .rectangle .result) (c .before .before .are-all-true .result) S.Yes (c .before .before .before .rectangle .ensures) (c .before .before .are-all-true .ensures) (c .enum-told .given .1)
+returns c =
+    let a = c .before .before .before .before .before .args in
+    let r = c .before .before .before .rectangle in
+    let s = c .before .before .are-all-true in
+    seen-as (a .p) (a .x) (a .y) (now (a .cells)) (r .result) (s .result) S.Yes (r .ensures) (s .ensures) (c .enum-told .given .1)
 
 returns-2 : tie.Need-returns-2
-returns-2 c = seen-as (c .before .before .before .before .before .args .p) (c .before .before .before .before .before .args .c) (now (c .before .before .before .before .before .args .cells)) (c .before .before .before .rectangle .result) (c .before .before .are-all-true .result) S.No (c .before .before .before .rectangle .ensures) (c .before .before .are-all-true .ensures) (c .enum-told2 .given .1)
+returns-2 c =
+    let a = c .before .before .before .before .before .args in
+    let r = c .before .before .before .rectangle in
+    let s = c .before .before .are-all-true in
+    seen-as (a .p) (a .x) (a .y) (now (a .cells)) (r .result) (s .result) S.No (r .ensures) (s .ensures) (c .enum-told2 .given .1)
 
 returns-3 : tie.Need-returns-3
-returns-3 c = seen-as (c .before .before .before .before .before .args .p) (c .before .before .before .before .before .args .c) (now (c .before .before .before .before .before .args .cells)) (c .before .before .before .rectangle .result) (c .before .before .are-all-true .result) S.Outside (c .before .before .before .rectangle .ensures) (c .before .before .are-all-true .ensures) (c .enum-told3 .given .1)
+returns-3 c =
+    let a = c .before .before .before .before .before .args in
+    let r = c .before .before .before .rectangle in
+    let s = c .before .before .are-all-true in
+    seen-as (a .p) (a .x) (a .y) (now (a .cells)) (r .result) (s .result) S.Outside (r .ensures) (s .ensures) (c .enum-told3 .given .1)
 
 pub is-all-true-spec : {M : Type 1} → statement M
 is-all-true-spec =

@@ -11,10 +11,24 @@ judge-requires : tie.Need-judge-requires
 judge-requires c κs = tt
 
 note-outcome-requires : tie.Need-note-outcome-requires
-note-outcome-requires c κs = ((c .before .before .before .before .before .pre .0), (c .before .before .before .before .before .pre .1), (c .before .before .before .before .before .pre .2), small-as (c .before .before .before .before .before .args .p) (c .before .before .before .before .before .args .same) (now (c .before .before .before .before .before .args .cells)) (c .before .before .before .before .before .args .j) (c .before .before .before .before .before .args .c) (c .before .before .before .before .before .args .v) (c .before .before .is-all-true .result) (c .judge .result) (c .judge .ensures))
+note-outcome-requires c κs =
+    let b = c .before .before .before .before .before in
+    let a = b .args in (
+      b .pre .0,
+      b .pre .1,
+      b .pre .2,
+      small-as (a .p) (a .same) (now (a .cells)) (a .j) (a .c .x) (a .c .y) (a .v)
+          (c .before .before .is-all-true .result) (c .judge .result) (c .judge .ensures),
+    )
 
 returns : tie.Need-returns
-returns c = judged-as (c .before .before .before .before .before .before .args .p) (c .before .before .before .before .before .before .args .same) (now (c .before .before .before .before .before .before .args .cells)) (c .before .before .before .before .before .before .args .j) (c .before .before .before .before .before .before .args .i) (c .before .before .before .before .before .before .args .c) (c .before .before .before .before .before .before .args .v) (c .before .before .before .is-all-true .result) (c .before .judge .result) (c .note-outcome .result) (c .before .before .before .is-all-true .ensures) (c .before .judge .ensures) (c .note-outcome .ensures)
+returns c =
+    let b = c .before .before .before .before .before .before in
+    let a = b .args in
+    let t = c .before .before .before .is-all-true in
+    let o = c .before .judge in
+    judged-as (a .p) (a .same) (now (a .cells)) (a .j) (a .c .x) (a .c .y) (a .v)
+    (t .result) (o .result) (o .ensures) (a .i) (c .note-outcome .result) (t .ensures) (c .note-outcome .ensures)
 
 pub judge-child-spec : {M : Type 1} → statement M
 judge-child-spec =

@@ -8,8 +8,8 @@ use Rattle.decide.specs.Verdict.{costOf}
 use Rattle.plan.proofs.note_outcome.Statement.{statement}
 use Rattle.plan.proofs.note_outcome.Tie as tie
 
-fate-of-requires : tie.Need-fate-of-requires
-fate-of-requires c κs = tt
+mul-at : tie.Need-mul-at
+mul-at c = search needs
 
 array-set-from-at : tie.Need-array-set-from-at
 array-set-from-at c = search needs
@@ -17,14 +17,20 @@ array-set-from-at c = search needs
 count-incomplete-requires : tie.Need-count-incomplete-requires
 count-incomplete-requires c κs = tt
 
-add-t13 : tie.Need-add-t13
-add-t13 c = let e : (c .before .count-incomplete .result) ≡ incompleteOnes (c .before .before .before .before .args .o) = (c .before .count-incomplete .ensures) in omega (arith, incomplete-one (c .before .before .before .before .args .o), (c .before .before .before .before .pre))
+add-t12 : tie.Need-add-t12
+add-t12 c =
+    let b = c .before .before .before in
+    let e : c .before .count-incomplete .result ≡ incompleteOnes (b .args .o) = c .before .count-incomplete .ensures in
+    omega (arith, incomplete-one (b .args .o), b .pre)
 
 cost-of-requires : tie.Need-cost-of-requires
 cost-of-requires c κs = tt
 
-add-t15 : tie.Need-add-t15
-add-t15 c = let e : (c .before .cost-of .result) ≡ costOf (c .before .before .before .before .before .before .args .o) = (c .before .cost-of .ensures) in omega (arith, (c .before .before .before .before .before .before .pre))
+add-t14 : tie.Need-add-t14
+add-t14 c =
+    let b = c .before .before .before .before .before in
+    let e : c .before .cost-of .result ≡ costOf (b .args .o) = c .before .cost-of .ensures in
+    omega (arith, b .pre)
 
 is-marking-requires : tie.Need-is-marking-requires
 is-marking-requires c κs = tt
@@ -33,18 +39,24 @@ is-legal-verdict-requires : tie.Need-is-legal-verdict-requires
 is-legal-verdict-requires c κs = tt
 
 returns : tie.Need-returns
-returns c = noted-as (c .before .before .before .before .before .before .before .before .before .before .args .j) (c .before .before .before .before .before .before .before .before .before .before .args .i) (c .before .before .before .before .before .before .before .before .before .before .args .rank) (c .before .before .before .before .before .before .before .before .before .before .args .v) (c .before .before .before .before .before .before .before .before .before .before .args .o) (c .before .before .before .before .before .before .before .before .before .fate-of .result) (c .before .before .before .before .before .before .before .count-incomplete .result) (c .before .before .before .before .before .cost-of .result) (c .before .before .before .is-marking .result) (c .before .is-legal-verdict .result) (c .before .before .before .before .before .before .before .before .before .fate-of .ensures) (c .before .before .before .before .before .before .before .count-incomplete .ensures) (c .before .before .before .before .before .cost-of .ensures) (c .before .before .before .is-marking .ensures) (c .before .is-legal-verdict .ensures)
+returns c =
+    let a = c .before .before .before .before .before .before .before .before .before .args in
+    let n = c .before .before .before .before .before .before .before .count-incomplete in
+    let e = c .before .before .before .before .before .cost-of in
+    let m = c .before .before .before .is-marking in
+    let l = c .before .is-legal-verdict in
+    noted-as (a .j) (a .i) (a .rank) (a .v) (a .o) (n .result) (e .result) (m .result) (l .result) (n .ensures) (e .ensures) (m .ensures) (l .ensures)
 
 pub note-outcome-spec : {M : Type 1} → statement M
 note-outcome-spec =
     tie.close
     (tie.spec
-    fate-of-requires
+    mul-at
     array-set-from-at
     count-incomplete-requires
-    add-t13
+    add-t12
     cost-of-requires
-    add-t15
+    add-t14
     is-marking-requires
     is-legal-verdict-requires
     returns)

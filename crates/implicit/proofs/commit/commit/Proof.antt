@@ -1,18 +1,24 @@
 -- `commit::commit` meets its contract. Assumes nothing.
+use mathlib.Core.Path.{sym, ap, _∙_}
 use denote.Ref.{now}
-use Rattle.implicit.proofs.StepLawsCode.{committed-by}
+use Rattle.implicit.specs.declared.deciding.Check.{Check}
+use Rattle.implicit.specs.StepComputed.{decisionBy, committedOf}
+use Rattle.implicit.proofs.StepLawsChildren.{four-in}
 use borrow.Author.Needs.{needs}
 use Rattle.implicit.proofs.commit.commit.Statement.{statement}
 use Rattle.implicit.proofs.commit.commit.Tie as tie
 
-mark-children-requires : tie.Need-mark-children-requires
-mark-children-requires c κs = c .before .before .before .pre .2
+enum-told : tie.Need-enum-told
+enum-told c = search needs
 
-with-front-taken-requires : tie.Need-with-front-taken-requires
-with-front-taken-requires c κs = c .before .before .before .before .before .before .pre .1
+carry-out-requires : tie.Need-carry-out-requires
+carry-out-requires c κs =
+    let s = c .before .before .before .before .before .before in
+    let a = s .args in
+    (s .pre .0, four-in (a .d .check) (a .d .decided) (c .before .before .enum-told .given .1) (s .pre .1))
 
-carry-children-requires : tie.Need-carry-children-requires
-carry-children-requires c κs = (rw (c .before .before .with-front-taken .ensures) (c .before .before .before .before .before .before .before .before .before .pre .0), c .before .before .before .before .before .before .before .before .before .pre .2)
+enum-told-2 : tie.Need-enum-told-2
+enum-told-2 c = search needs
 
 same-length : tie.Need-same-length
 same-length c = search needs
@@ -21,15 +27,19 @@ same-length-2 : tie.Need-same-length-2
 same-length-2 c = search needs
 
 returns : tie.Need-returns
-returns c = committed-by (c .before .before .before .before .before .before .before .before .before .before .before .before .before .before .args .s) (now (c .before .before .before .before .before .before .before .before .before .before .before .before .before .before .args .ring)) (now (c .before .before .before .before .before .before .before .before .before .before .before .before .before .before .args .cells)) (c .before .before .before .before .before .before .before .before .before .before .before .before .before .before .args .front) (c .before .before .before .before .before .before .before .before .before .before .before .before .before .before .args .plan .at) (c .before .before .before .before .before .before .before .before .before .before .mark-children .last .1 .0) (c .before .before .before .before .before .before .before .with-front-taken .result) (c .before .before .before .before .carry-children .result) (c .before .before .before .before .carry-children .last .1 .0) (c .before .before .before .before .carry-children .last .1 .1 .0) (c .before .before .before .before .before .before .before .before .before .before .mark-children .ensures) (c .before .before .before .before .before .before .before .with-front-taken .ensures) (c .before .before .before .before .carry-children .ensures)
+returns c =
+    let a = c .before .before .before .before .before .before .before .before .before .before .before .args in
+    c .before .before .before .before .carry-out .ensures
+    ∙ ap (λ (x : Check). committedOf (a .p) (a .from) (a .queued) (a .back) (now (a .ring)) (now (a .cells)) (decisionBy x (a .d .decided)))
+    (sym (c .before .before .before .before .before .before .before .enum-told .given .1))
+
+returns-2 : tie.Need-returns-2
+returns-2 c =
+    let a = c .before .before .before .before .args in
+    ap (λ (x : Check). committedOf (a .p) (a .from) (a .queued) (a .back) (now (a .ring)) (now (a .cells)) (decisionBy x (a .d .decided)))
+    (sym (c .enum-told2 .given .1))
 
 pub commit-spec : {M : Type 1} → statement M
 commit-spec =
     tie.close
-    (tie.spec
-    mark-children-requires
-    with-front-taken-requires
-    carry-children-requires
-    same-length
-    same-length-2
-    returns)
+    (tie.spec enum-told carry-out-requires enum-told-2 same-length same-length-2 returns returns-2)
