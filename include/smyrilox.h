@@ -10,17 +10,19 @@
  *                                or run, which takes the verdicts from a tape
  *     picture, counts            what is known so far
  *     move_queue                 a step that finds no room is refused, and goes on in a longer ring
+ *     .._with_table, fill_table  setup, step and run that also keep how many pixels of each tile read what, in a table of the caller's
  *     block_box                  where a child's square lies in the caller's own units: what an evaluator judges
  *
  * What a caller owes. No function can test these, and a call without the first five has no meaning at all:
- *     pointers     none is NULL, also where its count is 0; one to cells is aligned as a uint64_t is; a bool is 0 or 1
+ *     pointers     none is NULL, also where its count is 0; one to cells is aligned as a uint64_t is, one to a table as a uint32_t; a bool
+ *                  is 0 or 1
  *     counts       a buffer has as many elements as the count beside its pointer says
  *     no overlap   a buffer that is written shares no byte with another buffer of the call
  *     alone        while a call lasts, nobody else writes its buffers, or reads those that it writes
  *     stack        it has room for the call, some kilobytes: docs/SPEED.md has what was measured, and no theorem bounds it
  *     together     record, ring and cells are the ones that setup and the calls since left, in one piece, and a ring or cells in use get
  *                  no second setup. Made up or mixed, they cost the meaning of the picture and nothing else: every call still ends, and
- *                  writes only where it says below
+ *                  writes only where it says below. A table that is out of date costs its own meaning alone
  * Nothing else is owed: all other numbers, records and bytes may be handed in, and what is wrong with them is refused by number.
  *
  * Refusals. Every answer has a refusal: 0, or one of the numbers below. A refused call has written nothing, and a step, a run or a move
@@ -57,7 +59,8 @@ enum {
     SMYRILOX_PICTURE = 12,   /* too few bytes for the picture */
     SMYRILOX_EMPTY = 13,     /* nothing is queued: no step, and no children to list */
     SMYRILOX_BOUNDS = 15,    /* a bound of the box is not finite, or ends of it cross */
-    SMYRILOX_PADDING = 16    /* the padding leaves no width or no height */
+    SMYRILOX_PADDING = 16,   /* the padding leaves no width or no height */
+    SMYRILOX_TABLE = 17      /* too few numbers in the table: four a tile are needed, and spare ones stay as they are */
 };
 
 /* The bits of a variable set: which of the variables a relation uses. */
@@ -106,6 +109,16 @@ enum {
     SMYRILOX_FALSE = 0,
     SMYRILOX_UNCERTAIN = 1,
     SMYRILOX_TRUE = 2
+};
+
+/* A tile's side in pixels, how many numbers of a table it has, and the place of each among them. */
+enum {
+    SMYRILOX_TILE_SIDE = 16,
+    SMYRILOX_TILE_NUMBERS = 4,
+    SMYRILOX_TILE_TRUE = 0,
+    SMYRILOX_TILE_FALSE = 1,
+    SMYRILOX_TILE_UNCERTAIN = 2,
+    SMYRILOX_TILE_GIVEN_UP = 3
 };
 
 /* An interval: lower <= upper, no NaN, and neither infinity alone. An integer parameter's finite bounds are whole. */
@@ -363,6 +376,40 @@ uint64_t smyrilox_picture(smyrilox_state state, const uint64_t *cells, size_t ce
  * Refused by 8 for the record, 2, 8 for a cell; then all counts are 0, `uncertain` too, which does not mean that all is decided: look at the refusal.
  * Writes nothing. */
 smyrilox_counted smyrilox_counts(smyrilox_state state, const uint64_t *cells, size_t cells_len);
+
+/* THE TABLE: how many pixels of each tile read what, beside the picture.
+ * A tile has 16 by 16 pixels; those at the right and the lower edge may be smaller. Tiles count row by row from the top left: the one in
+ * column c and row r is tile r * columns + c, where columns is (width + 15) / 16. Tile i has four numbers from table[4 * i] on: its pixels
+ * that read True, False and Uncertain, which add up to all of its pixels, and those of the uncertain ones that are given up. What lies beyond
+ * four numbers a tile is never read or written.
+ * After smyrilox_setup_with_table or smyrilox_fill_table, and while every step takes the table as the call before left it, it equals a
+ * recount of the picture after every finished step, and a step changes only tiles that its block touches. So nobody else may write it. A
+ * step or a run without the table leaves it out of date, and no call can notice: then fill it again. A move of the queue changes no
+ * pixel, so the table goes on with the moved record. A refused call changes no number of it. */
+
+/* How many tiles a picture of these sides has: a table has four numbers for each.
+ * Refused by 1; then the value is 0. Writes nothing. */
+smyrilox_number smyrilox_tile_count(uint32_t width, uint32_t height);
+
+/* smyrilox_setup, which fills the table too.
+ * Refused by 1, 2, 17, 3, 6 in this order. Writes what smyrilox_setup writes, and the table's first four numbers a tile. */
+smyrilox_started smyrilox_setup_with_table(smyrilox_chosen chosen, smyrilox_ranges ranges, uint8_t *ring, size_t ring_len,
+                                           uint64_t *cells, size_t cells_len, uint32_t *table, size_t table_len);
+
+/* smyrilox_step, which brings the table up to date: the tiles that the taken block touches are counted anew, whatever the table held.
+ * Refused by 8 for the record, 2, 17, 13, 8 for the block, 4, 5, 7, 6 in this order; here 8 for the block also speaks of every cell in a
+ * touched tile, also one that the block does not cover. Writes what smyrilox_step writes, and the numbers of the touched tiles. */
+smyrilox_stepped smyrilox_step_with_table(smyrilox_state state, uint8_t *ring, size_t ring_len, uint64_t *cells, size_t cells_len,
+                                          uint32_t *table, size_t table_len, const uint8_t *verdicts, size_t verdicts_len);
+
+/* smyrilox_run, whose steps are those with the table.
+ * Refused by 8 for the record, 2, 17 in this order. Writes what the finished steps write. */
+smyrilox_ran smyrilox_run_with_table(smyrilox_state state, uint8_t *ring, size_t ring_len, uint64_t *cells, size_t cells_len,
+                                     uint32_t *table, size_t table_len, const uint8_t *tape, size_t tape_len, uint32_t budget);
+
+/* Fills a table by a recount of all pixels: for a picture that was begun without one, that was loaded, or whose table is out of date.
+ * Answers the refusal, or 0: 8 for the record, 2, 17, 8 for a cell. Writes the table's first four numbers a tile. */
+uint64_t smyrilox_fill_table(smyrilox_state state, const uint64_t *cells, size_t cells_len, uint32_t *table, size_t table_len);
 
 /* THE LEAVES: none writes anything. */
 

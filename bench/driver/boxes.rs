@@ -3,7 +3,7 @@
 use crate::{
     clock::timed,
     play::keep,
-    port::abi,
+    port::{abi, calls::smyrilox_block_box},
     stack::Table,
     watch::watched,
     worlds::{LEVELS, WHOLE},
@@ -39,7 +39,7 @@ fn places(level: i32) -> Vec<(abi::Coordinate, abi::Coordinate)> {
 #[no_mangle]
 pub fn counted_boxes(plot: &abi::Plot, kind: u8, places: &[(abi::Coordinate, abi::Coordinate)]) {
     for &(x, y) in places {
-        let boxed = unsafe { abi::smyrilox_block_box(*plot, kind, x, y) };
+        let boxed = unsafe { smyrilox_block_box(*plot, kind, x, y) };
         assert!(boxed.refusal == 0);
         keep(&boxed);
     }
@@ -84,7 +84,7 @@ pub fn stack(table: &mut Table) {
             for (kind_name, kind) in KINDS {
                 let c = abi::Coordinate { index: 1, level };
                 table.note("block_box", &format!("{name}, {kind_name}, level {level}"), None, &mut || {
-                    let call = watched(abi::smyrilox_block_box as unsafe extern "C" fn(_, _, _, _) -> _);
+                    let call = watched(smyrilox_block_box as unsafe extern "C" fn(_, _, _, _) -> _);
                     let boxed: abi::Boxed = unsafe { call(plot, kind, c, c) };
                     boxed.refusal
                 });

@@ -25,12 +25,13 @@ pub fn timed<T>(task: impl FnOnce() -> T) -> (f64, T) {
 }
 
 /// With three digits or more.
-fn milliseconds(seconds: f64) -> String {
+pub fn milliseconds(seconds: f64) -> String {
     let digits = if seconds < 1e-3 { 3 } else { 1 };
     format!("{:.digits$} ms", seconds * 1e3)
 }
 
-/// Medians and the spread of the ratio, over rounds in which the one that goes first alternates.
+/// Medians and the spread of the ratio, over rounds in which the one that goes first alternates: the port beside the Rust, or the
+/// port with a table beside the port without one.
 pub struct Measured {
     port: Vec<f64>,
     rust: Vec<f64>,
@@ -66,17 +67,27 @@ impl Measured {
         Self::least(&self.port) / Self::least(&self.rust)
     }
 
+    /// How much longer the first takes, of the least times.
+    pub fn difference(&self) -> f64 {
+        Self::least(&self.port) - Self::least(&self.rust)
+    }
+
     pub fn row(&self, name: &str, what: String) {
+        println!("| {name} | {what} | {} |", self.columns());
+    }
+
+    /// Both least times, their ratio, and the ratio by rounds.
+    pub fn columns(&self) -> String {
         let ratios: Vec<f64> = self.port.iter().zip(&self.rust).map(|(p, r)| p / r).collect();
-        println!(
-            "| {name} | {what} | {} | {} | {:.2} | {:.2} ({:.2} to {:.2}) |",
+        format!(
+            "{} | {} | {:.2} | {:.2} ({:.2} to {:.2})",
             milliseconds(Self::least(&self.port)),
             milliseconds(Self::least(&self.rust)),
             self.ratio(),
             Self::median(&ratios),
             Self::least(&ratios),
             ratios.iter().copied().fold(0.0, f64::max)
-        );
+        )
     }
 
     /// Steps a second of both, and the ratio of their times.

@@ -4,6 +4,7 @@ use crate::{
     dock,
     play::*,
     port::Port,
+    tables,
     time::drawn,
     work::{self, Work},
 };
@@ -23,13 +24,15 @@ fn tape(name: &str) -> Option<Work> {
     })
 }
 
-/// Plays a task on one engine, and tells its steps or cells. With `steps` the port goes step by step.
+/// Plays a task on one engine, and tells its steps or cells. With `steps` the port goes step by step, with `table` it keeps a
+/// table of tile counts, and with `recount` such a table is filled once at the end.
 pub fn count(name: &str, engine: &str, part: &str) {
     let size = match (tape(name), engine, part) {
         (Some(work), "port", "run") => {
             counted_port_run(&mut Port::made(&work.setup, work.ring), &work.tape, work.steps);
             work.steps
         }
+        (Some(work), "port", "table" | "recount") => tables::count(&work, part),
         (Some(work), "port", _) => {
             counted_port_steps(&mut Port::made(&work.setup, work.ring), &work.tape, work.steps);
             work.steps

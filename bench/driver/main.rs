@@ -9,7 +9,9 @@ mod play;
 mod port;
 mod room;
 mod stack;
+mod tables;
 mod time;
+#[cfg_attr(not(target_arch = "x86_64"), path = "unwatched.rs")]
 mod watch;
 mod work;
 mod worlds;
@@ -18,7 +20,8 @@ mod year;
 const USAGE: &str = "driver time ROUNDS
 driver customer ROUNDS
 driver year steps|run|rust HOURS
-driver count TASK port|rust run|steps|other
+driver count TASK port|rust run|steps|table|recount|other
+driver table ROUNDS
 driver boxes ROUNDS
 driver count-boxes quick|precise LEVEL
 driver growth
@@ -34,6 +37,7 @@ fn main() {
         ["customer", rounds] => time::time_customer(number(rounds)),
         ["year", engine, hours] => year::year(engine, number(hours) as u64),
         ["count", name, engine, part] => count::count(name, engine, part),
+        ["table", rounds] => tables::time(number(rounds)),
         ["boxes", rounds] => boxes::time(number(rounds)),
         ["count-boxes", kind, level] => boxes::count(kind, level.parse().expect("a level")),
         ["growth"] => growth::growth(),

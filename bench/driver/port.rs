@@ -46,7 +46,7 @@ impl Port {
         made
     }
 
-    fn memory(&mut self) -> (*mut u8, usize, *mut u64, usize) {
+    pub fn memory(&mut self) -> (*mut u8, usize, *mut u64, usize) {
         (self.ring.as_mut_ptr(), self.ring.len(), self.cells.as_mut_ptr(), self.cells.len())
     }
 

@@ -4,6 +4,7 @@
 use crate::{
     boxes,
     port::{abi, asked, calls::*, Port},
+    tables,
     watch::{taken, watched},
     worlds::*,
 };
@@ -22,11 +23,17 @@ struct Row {
 pub struct Table(Vec<Row>);
 
 /// Each entry with the numbers that it can give. A run gives its own, and stops by those of its steps.
-const ENTRIES: [(&str, &[u64]); 20] = [
+const ENTRIES: [(&str, &[u64]); 26] = [
     ("run", &[2, 8]),
     ("run, by the number that stops it", &[4, 5, 6, 7, 8]),
     ("step", &[2, 4, 5, 6, 7, 8, 13]),
     ("setup", &[1, 2, 3, 6]),
+    ("run_with_table", &[2, 8, 17]),
+    ("run_with_table, by the number that stops it", &[4, 5, 6, 7, 8]),
+    ("step_with_table", &[2, 4, 5, 6, 7, 8, 13, 17]),
+    ("setup_with_table", &[1, 2, 3, 6, 17]),
+    ("fill_table", &[2, 8, 17]),
+    ("tile_count", &[1]),
     ("children", &[8, 13]),
     ("least_ring", &[1, 3]),
     ("picture", &[2, 8, 12]),
@@ -120,6 +127,7 @@ fn step(table: &mut Table, case: &str, due: Option<u64>, world: &Port, verdicts:
             unsafe { call(state, ring.as_mut_ptr(), ring.len(), cells.as_mut_ptr(), cells.len(), at, count) };
         answer.refusal
     });
+    tables::stack_step(table, case, due, world, verdicts);
 }
 
 fn ran(world: &Port, tape: &[u8], budget: u32) -> abi::Ran {
@@ -141,6 +149,7 @@ fn run(table: &mut Table, case: &str, world: &Port, tape: &[u8], budget: u32) {
     if stop != 0 {
         table.note("run, by the number that stops it", case, Some(stop), &mut || ran(world, tape, budget).stop);
     }
+    tables::stack_run(table, case, world, tape, budget);
 }
 
 fn picture(table: &mut Table, case: &str, due: Option<u64>, world: &Port, room: usize) {
@@ -157,6 +166,7 @@ fn counts(table: &mut Table, case: &str, due: Option<u64>, world: &Port) {
         let answer: abi::Counted = unsafe { call(world.state, world.cells.as_ptr(), world.cells.len()) };
         answer.refusal
     });
+    tables::stack_fill(table, case, world);
 }
 
 /// Every verdict on a block, as a step and as a run that goes on; and what a step refuses by 4, 5 and 7.
@@ -258,6 +268,7 @@ fn setup_of(table: &mut Table, case: &str, setup: &Setup, ring: usize) {
                 unsafe { call(chosen, ranges, ring.as_mut_ptr(), ring.len(), cells.as_mut_ptr(), cells.len()) };
             answer.refusal
         });
+        tables::stack_setup(table, case, setup, ring, cells);
     }
 }
 

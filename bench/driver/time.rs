@@ -79,7 +79,7 @@ fn time_picture(side: u32, rounds: usize) -> Measured {
     )
 }
 
-fn works() -> Vec<Work> {
+pub fn works() -> Vec<Work> {
     vec![
         work::to_the_pixels(1024),
         work::third_answered(1024),

@@ -1,6 +1,7 @@
 //! Watches how much stack one call takes. The call goes through a few instructions that fill the room below its return
 //! address with a pattern, jump to the entry, and look afterwards for the lowest word that was changed. So what is measured
-//! is the entry's own: the return address and all below it, nothing of what its caller makes, copies or looks at.
+//! is the entry's own: the return address and all below it, nothing of what its caller makes, copies or looks at. It needs
+//! x86-64; elsewhere unwatched.rs takes its place.
 
 use std::{
     arch::global_asm,

@@ -63,9 +63,12 @@ class Library(unittest.TestCase):
                 _library.load(_library.find())
 
     def test_an_older_library(self):
-        """One that does not say its layout is not used."""
+        """One that does not say its layout, or lacks a function, is not used."""
         with self.assertRaisesRegex(ImportError, "older"):
             _library.load("libc.so.6")
+        older = mock.Mock(spec=["smyrilox_cells", "smyrilox_least_ring", "smyrilox_enough_ring"])
+        with self.assertRaisesRegex(ImportError, "older than this module: it has no smyrilox_setup$"):
+            _library.declared(older)
 
 
 if __name__ == "__main__":

@@ -30,6 +30,8 @@ mod random;
 mod record;
 mod rounding;
 mod setups;
+#[cfg(port)]
+mod tabled;
 mod vectors;
 mod worked;
 
@@ -51,6 +53,7 @@ driver signs SEED CASES STEPS
 driver torn SEED CASES STEPS
 driver faults SEED
 driver edges SEED COUNT (with a port)
+driver table SEED CASES STEPS (with a port)
 driver boxes SEED COUNT
 driver rounding SEED COUNT FILE
 driver record SEED CASES STEPS FILE
@@ -122,6 +125,14 @@ fn leaves(start: Instant, seed: u64, count: u64) -> usize {
 fn edges(start: Instant, seed: u64, count: u64) -> usize {
     let edges::Edges { questions, refusals, differences } = edges::ask(seed, count);
     report("edges", start, format!("{questions} questions, {refusals} refusals due"), &differences)
+}
+
+/// The port with a table of tile counts, on pictures from their setup and on odd ones.
+#[cfg(port)]
+fn table(start: Instant, seed: u64, cases: u64, steps: u64) -> usize {
+    let begun = play::random_cases(&FIRST, &tabled::TabledMaker, seed, cases, steps);
+    let odd = odd::cases(&FIRST, &tabled::TabledMaker, seed, cases, steps / 10);
+    report_series("table", start, &begun) + report_series("table, odd", start, &odd)
 }
 
 fn boxes(start: Instant, seed: u64, count: u64) -> usize {
@@ -217,6 +228,8 @@ fn main() {
         ["leaves", seed, count] => leaves(start, number(seed), number(count)),
         #[cfg(port)]
         ["edges", seed, count] => edges(start, number(seed), number(count)),
+        #[cfg(port)]
+        ["table", seed, cases, steps] => table(start, number(seed), number(cases), number(steps)),
         ["boxes", seed, count] => boxes(start, number(seed), number(count)),
         ["rounding", seed, count, file] => {
             let (seed, count) = (number(seed), number(count));

@@ -15,7 +15,7 @@ fn chosen(width: u32, height: u32, set: u8, reserved: [u8; 3]) -> abi::Chosen {
     abi::Chosen { width, height, set, reserved1, reserved2, reserved3 }
 }
 
-fn state(r: &Record) -> abi::State {
+pub fn state(r: &Record) -> abi::State {
     let last = |l: &Last| {
         let [m, n, theta, t] = l.parameters.map(interval);
         abi::Last { x: l.x, y: l.y, m, n, theta, t }
@@ -38,7 +38,7 @@ pub fn asked(setup: &Setup) -> (abi::Chosen, abi::Ranges) {
     (chosen(setup.width, setup.height, setup.set, setup.reserved), abi::Ranges { m, n, theta, t })
 }
 
-fn record(s: &abi::State) -> Record {
+pub fn record(s: &abi::State) -> Record {
     let last = |l: &abi::Last| Last { x: l.x, y: l.y, parameters: [l.m, l.n, l.theta, l.t].map(bounds) };
     let abi::Chosen { width, height, set, reserved1, reserved2, reserved3 } = s.chosen;
     Record {
@@ -57,7 +57,7 @@ fn record(s: &abi::State) -> Record {
 }
 
 /// The answer, or its refusal.
-fn unless_refused<T>(refusal: u64, answer: T) -> Result<T, Refusal> {
+pub fn unless_refused<T>(refusal: u64, answer: T) -> Result<T, Refusal> {
     if refusal == 0 {
         Ok(answer)
     } else {
@@ -65,13 +65,28 @@ fn unless_refused<T>(refusal: u64, answer: T) -> Result<T, Refusal> {
     }
 }
 
+/// What a run says of itself.
+pub fn ended(ran: &abi::Ran) -> Result<Ran, Refusal> {
+    if ran.refusal != 0 {
+        return Err(ran.refusal as Refusal);
+    }
+    let end = match ran.ending {
+        1 => RunEnd::Done,
+        2 => RunEnd::Limit,
+        3 => RunEnd::More,
+        4 => RunEnd::Stop(ran.stop as Refusal),
+        other => panic!("no ending has the number {other}"),
+    };
+    Ok(Ran { end, steps: ran.steps, evaluations: ran.evaluations, tape: ran.tape as u64 })
+}
+
 pub struct PortMaker;
 
 #[derive(Clone)]
 pub struct Port {
-    state: abi::State,
-    ring: Vec<u8>,
-    cells: Vec<u64>,
+    pub state: abi::State,
+    pub ring: Vec<u8>,
+    pub cells: Vec<u64>,
 }
 
 impl Maker for PortMaker {
@@ -127,17 +142,7 @@ impl Engine for Port {
         let ran =
             unsafe { smyrilox_run(self.state, ring, ring_len, cells, cells_len, tape.as_ptr(), tape.len(), budget) };
         self.state = ran.state;
-        if ran.refusal != 0 {
-            return Err(ran.refusal as Refusal);
-        }
-        let end = match ran.ending {
-            1 => RunEnd::Done,
-            2 => RunEnd::Limit,
-            3 => RunEnd::More,
-            4 => RunEnd::Stop(ran.stop as Refusal),
-            other => panic!("no ending has the number {other}"),
-        };
-        Ok(Ran { end, steps: ran.steps, evaluations: ran.evaluations, tape: ran.tape as u64 })
+        ended(&ran)
     }
 
     fn picture(&self, bytes: &mut [u8]) -> Result<(), Refusal> {

@@ -185,6 +185,118 @@ pub unsafe extern "C" fn smyrilox_counts(state: abi::State, cells: *const u64, c
     abi::Counted { refusal: 0, counts }
 }
 
+#[no_mangle]
+pub extern "C" fn smyrilox_tile_count(width: u32, height: u32) -> abi::Number {
+    match [width, height].iter().all(|side| (1..=32768).contains(side)) {
+        true => number(tiles(width, height) as u64),
+        false => abi::Number { refusal: 1, value: 0 },
+    }
+}
+
+fn tiles(width: u32, height: u32) -> usize {
+    ((width as usize + 15) / 16) * ((height as usize + 15) / 16)
+}
+
+/// Whether a table has four numbers for each tile; else 17.
+fn has_room(chosen: &abi::Chosen, table_len: usize) -> bool {
+    4 * tiles(chosen.width, chosen.height) <= table_len
+}
+
+/// All tiles counted anew, pixel by pixel.
+unsafe fn recount(state: &abi::State, cells: *const u64, table: *mut u32) {
+    const GIVEN_UP: u64 = (1 << 32) + 1;
+    let (width, height) = (state.chosen.width as usize, state.chosen.height as usize);
+    let cells = from_raw_parts(cells, width * height);
+    let table = from_raw_parts_mut(table, 4 * tiles(state.chosen.width, state.chosen.height));
+    let mut picture = vec![1; cells.len()];
+    smyrilox_picture(*state, cells.as_ptr(), cells.len(), picture.as_mut_ptr(), picture.len());
+    table.fill(0);
+    for (i, (&reading, &cell)) in picture.iter().zip(cells).enumerate() {
+        let tile = 4 * (i / width / 16 * ((width + 15) / 16) + i % width / 16);
+        table[tile + [1, 2, 0][reading as usize]] += 1;
+        table[tile + 3] += (cell == GIVEN_UP) as u32;
+    }
+}
+
+#[no_mangle]
+pub unsafe extern "C" fn smyrilox_setup_with_table(
+    chosen: abi::Chosen,
+    ranges: abi::Ranges,
+    ring: *mut u8,
+    ring_len: usize,
+    cells: *mut u64,
+    cells_len: usize,
+    table: *mut u32,
+    table_len: usize,
+) -> abi::Started {
+    if !has_room(&chosen, table_len) {
+        return abi::Started { refusal: 17, ..Default::default() };
+    }
+    let started = smyrilox_setup(chosen, ranges, ring, ring_len, cells, cells_len);
+    if started.refusal == 0 {
+        recount(&started.state, cells, table);
+    }
+    started
+}
+
+#[no_mangle]
+pub unsafe extern "C" fn smyrilox_step_with_table(
+    state: abi::State,
+    ring: *mut u8,
+    ring_len: usize,
+    cells: *mut u64,
+    cells_len: usize,
+    table: *mut u32,
+    table_len: usize,
+    verdicts: *const u8,
+    verdicts_len: usize,
+) -> abi::Stepped {
+    if !has_room(&state.chosen, table_len) {
+        return abi::Stepped { refusal: 17, state, ..Default::default() };
+    }
+    let done = smyrilox_step(state, ring, ring_len, cells, cells_len, verdicts, verdicts_len);
+    if done.refusal == 0 {
+        recount(&done.state, cells, table);
+    }
+    done
+}
+
+#[no_mangle]
+pub unsafe extern "C" fn smyrilox_run_with_table(
+    state: abi::State,
+    ring: *mut u8,
+    ring_len: usize,
+    cells: *mut u64,
+    cells_len: usize,
+    table: *mut u32,
+    table_len: usize,
+    tape: *const u8,
+    tape_len: usize,
+    budget: u32,
+) -> abi::Ran {
+    if !has_room(&state.chosen, table_len) {
+        return abi::Ran { refusal: 17, state, ..Default::default() };
+    }
+    let ran = smyrilox_run(state, ring, ring_len, cells, cells_len, tape, tape_len, budget);
+    recount(&ran.state, cells, table);
+    ran
+}
+
+#[no_mangle]
+pub unsafe extern "C" fn smyrilox_fill_table(
+    state: abi::State,
+    cells: *const u64,
+    _cells_len: usize,
+    table: *mut u32,
+    table_len: usize,
+) -> u64 {
+    if !has_room(&state.chosen, table_len) {
+        return 17;
+    }
+    recount(&state, cells, table);
+    0
+}
+
 fn point(value: f64) -> abi::Point {
     abi::Point { refusal: 0, value }
 }

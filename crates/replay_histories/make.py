@@ -1,11 +1,12 @@
 #!/usr/bin/env python3
 """make.py STORED VECTORS TRACES..: writes stdin and stdout, the list that the program `replay_histories` plays and what it must print.
 
-The answers are those of model.py, documents 01 and 02 once more on Python's own numbers; tables.py has the list's format; cases.py, damage.py, rings.py,
-rooms.py and moves.py make cases up. The files named on the command line were recorded elsewhere: vectors.txt and traces.tsv; original.tsv, which compare/'s
-driver wrote (`driver record 20261115 40 8`) while it played the original (document 02 rounds shares down: they were worked out again, each from its row's own
-counts); and the stored charts with n_theta, which the library once began. The model is held against every line of them, so that what is played is what
-they have.
+The answers are those of model.py, documents 01 and 02 once more on Python's own numbers, and of counted.py, which recounts tiles pixel by pixel; tables.py has
+the list's format; cases.py, damage.py, rings.py, rooms.py, moves.py, tiles.py and tilecounts.py make cases up. The files named on the command line were
+recorded elsewhere: vectors.txt and traces.tsv; original.tsv, which compare/'s driver wrote (`driver record 20261115 40 8`) while it played the original
+(document 02 rounds shares down: they were worked out again, each from its row's own counts); and the stored charts with n_theta, which the library once began.
+tiles.py reads tiles.tsv and orders.tsv, which were recorded elsewhere too. The models are held against every line of them that is played, so that what is
+played is what they have.
 
     python3 make.py ../../bindings/stored/charts.txt vectors.txt traces.tsv original.tsv
 """
@@ -21,9 +22,11 @@ import moves
 import rings
 import rooms
 import stored
-from lists import lines_of, of_digits, write
+import tilecounts
+import tiles
+from lists import lines_of, write
 from tables import Player
-from worlds import same
+from worlds import intervals, recorded, same
 
 # ---- vectors: a head line, a pair of lines for each step, the ending, a sheet, and what the sheet prints
 
@@ -81,20 +84,8 @@ def vectors(p, path):
 # ---- traces: a line for each call
 
 
-def intervals(text):
-    return tuple(tuple(map(of_digits, p.split(":"))) for p in text.split(","))
-
-
-def traced(row):
-    """The world of a line."""
-    n = row[5].split()
-    width, height, s, taken, queued, length, head, used, bx, by, fx, fy = map(int, n[:12])
-    front, back = (fx, fy, intervals(n[13])), (bx, by, intervals(n[12]))
-    return model.World(model.Record(width, height, s, taken, queued, length, head, used, front, back), bytes.fromhex(row[6]), [int(c) for c in row[7].split()])
-
-
 def trace(p, row):
-    want = traced(row)
+    want = recorded(*row[5:8])
     if row[1].startswith("setup"):
         _, width, height, s, ranges = row[1].split()
         assert row[3] == "0" and p.setup(int(width), int(height), int(s), intervals(ranges), b"\xa5" * len(want.ring), [5] * (len(want.cells) - 1) + [9]) == 0
@@ -127,6 +118,11 @@ def main():
     n = stored.charts(p, sys.argv[1])
     p.close(f"stored charts with n_theta, {n} charts")
     for part in cases.PARTS + damage.PARTS + rings.PARTS + rooms.PARTS + moves.PARTS:
+        part(p)
+        p.close(part.__doc__.split(".")[0])
+    for title, play in tiles.RECORDED:
+        p.close(title.format(*play(p)))
+    for part in tiles.PARTS + tilecounts.PARTS:
         part(p)
         p.close(part.__doc__.split(".")[0])
     p.out += b"\0"

@@ -8,8 +8,8 @@ Words (64 bits each)
   41 the answer, 0 or a refusal's number, 42 evaluations, 43 verdict bytes taken, 44 steps, 45 the ending (1 done, 2 limit, 3 more, 100 + n stop n)
   46.. counts: true, false, uncertain, given up, queued, share
   52 the number of children, 53.. four blocks of 13: x, its level + 48, y, its level + 48, m, n, n_theta, t, direction
-  105 the bytes that a ring needs, 106 the other ring's bytes lent
-  128.. cells
+  105 the bytes that a ring needs, 106 the other ring's bytes lent, 107 the table's numbers lent
+  128.. cells, 1536.. the table of tile counts
 Bytes
   0.. the ring, 3072.. verdicts or tape, 3584.. the picture; in a move 3072.. the other ring
 
@@ -19,11 +19,14 @@ in one, and the values. 255 closes a part: the length of its title, and the titl
 """
 import struct
 
+import counted
 import model
 from lists import one_nan
 
 CALLS = ("setup", "children", "step", "run", "picture", "counts", "least_ring", "enough_ring", "move_queue")
-RING, TAPE, PICTURE, OTHER, CELLS = 3072, 3072, 3584, 3072, 128
+CALLS += ("setup_with_table", "step_with_table", "run_with_table", "fill_table")
+WORDS, BYTES = 2048, 5120
+RING, TAPE, PICTURE, OTHER, CELLS, TABLE = 3072, 3072, 3584, 3072, 128, 1536
 ENDINGS = {"done": 1, "limit": 2, "more": 3}
 
 
@@ -43,6 +46,10 @@ def block_words(b):
     return [b[0], b[2] + 48, b[1], b[2] + 48] + bounds_words(b[3]) + [b[4]]
 
 
+def table_words(table):
+    return [(107, len(table)), *enumerate(table, TABLE)]
+
+
 def size_of(v):
     return 1 if v < 256 else 5 if v < 1 << 40 else 8
 
@@ -60,15 +67,28 @@ def stretches(table, old, new):
     return [struct.pack(">BHB", n, a, e - a + 1) + b"".join(v.to_bytes(n or 1, "big") for v in new[a : e + 1]) for a, e, n in found]
 
 
+def in_rows(old, new):
+    """The stretches that make all words new from the first to the last that changes: few, whatever the values."""
+    places = [i for i in range(len(new)) if old[i] != new[i]]
+    found = []
+    for a in range(places[0], places[-1] + 1, 255):
+        row = new[a : min(a + 255, places[-1] + 1)]
+        size = max(map(size_of, row))
+        found.append(struct.pack(">BHB", size, a, len(row)) + b"".join(v.to_bytes(size, "big") for v in row))
+    return found
+
+
 class Player:
-    """Plays calls by the model and writes them down. `world` is the present record, ring and cells."""
+    """Plays calls by the model and writes them down. `world` is the present record, ring and cells, `table` the
+    tile counts beside it."""
 
     def __init__(self):
-        self.words, self.bytes = [0] * 384, bytearray(4096)
+        self.words, self.bytes = [0] * WORDS, bytearray(BYTES)
         self.out, self.parts, self.calls, self.answers = b"", [], 0, {}
 
     def change(self, words, data):
-        found = stretches("words", self.words, words) + stretches("bytes", self.bytes, data)
+        of_words, of_bytes = stretches("words", self.words, words), stretches("bytes", self.bytes, data)
+        found = (of_words if len(of_words + of_bytes) < 256 else in_rows(self.words, words)) + of_bytes
         assert len(found) < 256
         self.out += bytes([len(found)]) + b"".join(found)
         self.words, self.bytes = list(words), bytearray(data)
@@ -79,11 +99,12 @@ class Player:
         values = dict(words)
         if w.record is not None:
             values.update(enumerate(record_words(w.record)))
-        assert len(w.ring) <= RING and len(w.cells) <= 256
+        assert len(w.ring) <= RING and len(w.cells) <= TABLE - CELLS
         values.update({36: len(w.ring), 37: len(w.cells)})
         values.update((CELLS + i, c) for i, c in enumerate(w.cells))
         data[: len(w.ring)] = w.ring
         if tape is not None:
+            assert len(tape) <= PICTURE - TAPE
             values[38] = len(tape)
             data[TAPE : TAPE + len(tape)] = tape
         if picture is not None:
@@ -94,7 +115,7 @@ class Player:
             data[OTHER : OTHER + len(other)] = other
         for at, v in values.items():
             new[at] = v
-        assert len(data) == 4096 and len(new) == 384
+        assert len(data) == BYTES and len(new) == WORDS
         return new, data
 
     def entry(self, call, given, left, refusal):
@@ -129,11 +150,20 @@ class Player:
 
     def setup(self, width, height, s, ranges, ring, cells, reserved=0):
         got = model.setup(width, height, s, ranges, ring, cells)
+        return self.started("setup", got, self.chosen(width, height, s, ranges, reserved), ring, cells)
+
+    def started(self, call, got, words, ring, cells, after=()):
+        """A setup that is given some words, and leaves some after it."""
         start = model.World(None, bytes(ring), list(cells))
-        given = self.tables(start, self.chosen(width, height, s, ranges, reserved))
+        given = self.tables(start, words)
         refusal = got if isinstance(got, int) else 0
         self.world = start if refusal else got
-        return self.answer("setup", given, self.world, [(41, refusal)], refusal)
+        return self.answer(call, given, self.world, [(41, refusal), *after], refusal)
+
+    def setup_with_table(self, width, height, s, ranges, ring, cells, table, reserved=0):
+        got, self.table = counted.setup(width, height, s, ranges, ring, cells, list(table))
+        words = self.chosen(width, height, s, ranges, reserved) + table_words(table)
+        return self.started("setup_with_table", got, words, ring, cells, table_words(self.table))
 
     def answer(self, call, given, world, words, refusal, place=0, data=b""):
         """Writes a call down that leaves a world, some words and some bytes from a place on, from the tables that it is given."""
@@ -151,21 +181,44 @@ class Player:
         return self.answer("children", self.tables(self.world), self.world, words, refusal)
 
     def step(self, verdicts):
-        got = model.step(self.world, verdicts)
-        words = [(41, got.refusal)] + ([] if got.refusal else [(42, got.evaluations), (43, got.verdicts)])
-        self.answer("step", self.tables(self.world, tape=verdicts), got.world, words, got.refusal)
+        return self.stepped("step", model.step(self.world, verdicts), verdicts)
+
+    def stepped(self, call, got, verdicts, before=(), after=()):
+        """A step that is given some words besides the verdicts, and leaves some after it."""
+        words = [(41, got.refusal), *after] + ([] if got.refusal else [(42, got.evaluations), (43, got.verdicts)])
+        self.answer(call, self.tables(self.world, before, tape=verdicts), got.world, words, got.refusal)
         self.world = got.world
         return got
 
+    def step_with_table(self, verdicts):
+        before = table_words(self.table)
+        got, self.table = counted.step(self.world, self.table, verdicts)
+        return self.stepped("step_with_table", got, verdicts, before, table_words(self.table))
+
     def run(self, tape, budget):
-        got = model.run(self.world, tape, budget)
-        words = [(41, got.refusal)]
+        return self.ran("run", model.run(self.world, tape, budget), tape, [(39, budget)])
+
+    def ran(self, call, got, tape, before, after=()):
+        """A run that is given some words besides the tape, and leaves some after it."""
+        words = [(41, got.refusal), *after]
         if not got.refusal:
             ending = ENDINGS.get(got.ending) or 100 + got.ending
             words += [(42, got.evaluations), (43, got.verdicts), (44, got.steps), (45, ending)]
-        self.answer("run", self.tables(self.world, [(39, budget)], tape=tape), got.world, words, got.refusal)
+        self.answer(call, self.tables(self.world, before, tape=tape), got.world, words, got.refusal)
         self.world = got.world
         return got
+
+    def run_with_table(self, tape, budget):
+        before = [(39, budget)] + table_words(self.table)
+        got, self.table = counted.run(self.world, self.table, tape, budget)
+        return self.ran("run_with_table", got, tape, before, table_words(self.table))
+
+    def fill_table(self, table):
+        """A refusal's number or 0, and the table, which is not the present one's."""
+        refusal, left = counted.fill(self.world, list(table))
+        given = self.tables(self.world, table_words(table))
+        self.answer("fill_table", given, self.world, [(41, refusal)] + table_words(left), refusal)
+        return refusal, left
 
     def picture(self, buffer):
         refusal, left = model.picture(self.world, buffer)

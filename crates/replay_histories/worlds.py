@@ -1,5 +1,6 @@
-"""worlds.py: worlds (record, ring, cells) from a setup or put together by hand, and ways to look at them."""
+"""worlds.py: worlds (record, ring, cells) from a setup, put together by hand or read from a recorded line, and ways to look at them."""
 import model
+from lists import of_digits
 from model import INF, LINE, NAN, START, Record, World
 
 TOP = 1 << 32
@@ -25,6 +26,24 @@ def begun(width, height, s, ranges=RANGES, room=None, spare=1):
     big = model.setup(width, height, s, ranges, bytes(3000), [0] * (width * height))
     ring = bytes([0xA5] * (big.record.used if room is None else room))
     return model.setup(width, height, s, ranges, ring, [3] * (width * height + spare))
+
+
+def numbers(text):
+    """The numbers of a text, in which v*n stands for n times v."""
+    parts = [(part + "*1").split("*") for part in text.split()]
+    return [int(part[0]) for part in parts for _ in range(int(part[1]))]
+
+
+def intervals(text):
+    return tuple(tuple(map(of_digits, p.split(":"))) for p in text.split(","))
+
+
+def recorded(record, ring, cells):
+    """The world of a recorded line."""
+    n = record.split()
+    width, height, s, taken, queued, length, head, used, bx, by, fx, fy = map(int, n[:12])
+    front, back = (fx, fy, intervals(n[13])), (bx, by, intervals(n[12]))
+    return World(Record(width, height, s, taken, queued, length, head, used, front, back), bytes.fromhex(ring), numbers(cells))
 
 
 def with_record(w, **fields):

@@ -18,6 +18,12 @@ A Plot says where a picture lies in the caller's units, and gives a block's box 
     plot = Plot(60, 40, left=0, right=110, bottom=0, top=29)
     arrivals, crew = plot.block_box(block).outer
 
+A chart can also keep how many pixels of each tile of 16 by 16 read what, and make a thumbnail of it:
+
+    chart = Chart(Setup(256, 160, X | Y), steps=700, with_table=True)
+    chart.table.tile(3, 0)          # Tile(yes=0, no=0, uncertain=256, given_up=0)
+    chart.table.thumbnail()         # a byte for each tile: 255 white, 0 black, greys between
+
 The library, libsmyrilox.so, is looked for beside this module, then where the environment's SMYRILOX_SO says, then among the repository's
 products, where bindings/build puts it, then where the system's loader looks.
 """
@@ -28,6 +34,7 @@ from ._leaves import first_cut, later_cut, midpoint, simple_fraction
 from ._plot import BlockBox, Edges, MapKind, Padding, Plot
 from ._refusal import WORDS, NoMemory, Refused
 from ._saved import NotLoaded
+from ._table import Table, Tile
 from ._verdict import AREA, NO, UNDECIDED, YES, Verdict, found_at, yes_for
 
 __version__ = "0.1.0"
@@ -56,6 +63,8 @@ __all__ = [
     "Counts",
     "Reading",
     "Grey",
+    "Table",
+    "Tile",
     "Plot",
     "Padding",
     "Edges",

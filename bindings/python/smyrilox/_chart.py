@@ -2,14 +2,16 @@
 
 import enum
 import threading
-from ctypes import c_uint8, c_uint64, memmove, sizeof
+from ctypes import c_uint8, c_uint64, memmove
 from typing import Any, Callable, List, NamedTuple, Optional, Tuple, Union
 
 from . import _library as lib
-from . import _pictures, _saved
+from . import _pictures, _saved, _table
 from ._block import Block, Setup, block_of, fits, setup_of
+from ._memory import copied, zeros
 from ._refusal import NoMemory, Refused, check
 from ._saved import NotLoaded
+from ._table import Table
 from ._verdict import Verdict
 
 
@@ -63,36 +65,52 @@ class Chart:
 
     The ring has `ring` bytes; or as many as are enough for `steps` steps, none of which is then refused by 6; or, of a chart that grows,
     as many as its beginning needs. Where a step finds no room, a chart with `grows` doubles its ring and takes the step.
-    `tag` says what the chart is of, the relation and the evaluator with its version: it is saved, and `load` must name it."""
+    `tag` says what the chart is of, the relation and the evaluator with its version: it is saved, and `load` must name it.
+    A chart that is begun or loaded `with_table` also keeps how many pixels of each tile read what: `table`. It is not saved."""
 
-    def __init__(self, setup: Setup, ring: Optional[int] = None, *, steps: Optional[int] = None, grows: bool = False, tag: Union[bytes, str] = b""):
+    def __init__(
+        self,
+        setup: Setup,
+        ring: Optional[int] = None,
+        *,
+        steps: Optional[int] = None,
+        grows: bool = False,
+        tag: Union[bytes, str] = b"",
+        with_table: bool = False,
+    ):
         if ring is None:
             if steps is None and not grows:
                 raise TypeError("a chart begins with a ring of so many bytes, with a number of steps, or grows")
             ring = setup.least_ring if steps is None else setup.enough_ring(steps)
-        tag, bytes_, cells = _tag(tag), _zeros(c_uint8, ring), _zeros(c_uint64, setup.cells)
-        started = lib.library.smyrilox_setup(setup._chosen(), setup._ranges(), bytes_, len(bytes_), cells, len(cells))
+        tag, bytes_, cells, chosen = _tag(tag), zeros(c_uint8, ring), zeros(c_uint64, setup.cells), setup._chosen()
+        begin, lent = lib.library.smyrilox_setup, [bytes_, len(bytes_), cells, len(cells)]
+        numbers = _table.room(chosen) if with_table else None
+        if numbers is not None:
+            begin, lent = lib.library.smyrilox_setup_with_table, lent + [numbers, len(numbers)]
+        started = begin(chosen, setup._ranges(), *lent)
         check(started.refusal)
-        self._own(started.state, bytes_, cells, setup._used_ranges(), tag, grows)
+        self._own(started.state, bytes_, cells, setup._used_ranges(), tag, grows, numbers)
 
-    def _own(self, state, ring, cells, ranges, tag, grows):
+    def _own(self, state, ring, cells, ranges, tag, grows, numbers=None):
         # a lock that its holder may take again: step_with holds it while the evaluator is asked
         self._lock = threading.RLock()
         self._state, self._ring, self._cells, self._ranges = state, ring, cells, ranges
         self.tag, self.grows = tag, grows
+        self._table = None if numbers is None else Table(state.chosen, self._lock, numbers)
 
     def __copy__(self) -> "Chart":
         with self._lock:
             copy = object.__new__(type(self))
-            state, ring, cells = (type(own).from_buffer_copy(own) for own in (self._state, self._ring, self._cells))
-            copy._own(state, ring, cells, self._ranges, self.tag, self.grows)
+            state, ring, cells = map(copied, (self._state, self._ring, self._cells))
+            numbers = None if self._table is None else copied(self._table._numbers)
+            copy._own(state, ring, cells, self._ranges, self.tag, self.grows, numbers)
             return copy
 
     def __deepcopy__(self, memo) -> "Chart":
         return self.__copy__()
 
     def __reduce__(self):
-        return (Chart.load, (self.save(), self.tag, self.grows))
+        return (Chart.load, (self.save(), self.tag, self.grows, self._table is not None))
 
     def __repr__(self) -> str:
         width, height = self.size
@@ -127,13 +145,18 @@ class Chart:
         """The bytes that the queue takes, of those that the ring has."""
         return (self._state.used, self._state.len)
 
+    @property
+    def table(self) -> Optional[Table]:
+        """How many pixels of each tile read what, if the chart was begun or loaded `with_table`: every step brings it up to date."""
+        return self._table
+
     def grow(self, ring: int) -> None:
         """Moves the queue to a ring of so many bytes, longer or shorter. Refused by 6 where the queue's bytes are more; where there is no
         memory for it the error, NoMemory, names the bytes. Then nothing has changed."""
         with self._lock:
             if ring < self._state.used:
                 raise Refused(6)
-            other = _zeros(c_uint8, ring)
+            other = zeros(c_uint8, ring)
             moved = lib.library.smyrilox_move_queue(self._state, self._ring, len(self._ring), other, len(other))
             check(moved.refusal)
             self._state, self._ring = moved.state, other
@@ -145,19 +168,22 @@ class Chart:
         check(listed.refusal)
         return [block_of(b) for b in listed.at[: listed.count]]
 
-    def _call(self, function, given, *more):
+    def _call(self, name, given, *more):
         """A step or a run, over what the chart owns."""
-        return function(self._state, self._ring, len(self._ring), self._cells, len(self._cells), given, len(given), *more)
+        lent = [self._ring, len(self._ring), self._cells, len(self._cells)]
+        if self._table is not None:
+            name, lent = name + "_with_table", lent + [self._table._numbers, len(self._table._numbers)]
+        return getattr(lib.library, "smyrilox_" + name)(self._state, *lent, given, len(given), *more)
 
     def step(self, verdicts: bytes) -> Step:
         """One step, with a verdict byte for each child."""
         verdicts = _bytes(verdicts)
         given = (c_uint8 * len(verdicts)).from_buffer_copy(verdicts)
         with self._lock:
-            stepped = self._call(lib.library.smyrilox_step, given)
+            stepped = self._call("step", given)
             while stepped.refusal == 6 and self.grows:
                 self.grow(2 * len(self._ring))
-                stepped = self._call(lib.library.smyrilox_step, given)
+                stepped = self._call("step", given)
             if stepped.refusal:
                 raise self._why(stepped.refusal, verdicts)
             self._state = stepped.state
@@ -214,7 +240,7 @@ class Chart:
         with self._lock:
             while True:
                 given = (c_uint8 * (len(tape) - taken)).from_buffer_copy(tape, taken)
-                ran = self._call(lib.library.smyrilox_run, given, budget - steps)
+                ran = self._call("run", given, budget - steps)
                 check(ran.refusal)
                 self._state = ran.state
                 steps, evaluations, taken = steps + ran.steps, evaluations + ran.evaluations, taken + ran.tape
@@ -268,13 +294,13 @@ class Chart:
             return _saved.written(self._state, self._ranges, _tag(self.tag), self._ring, self._cells)
 
     @classmethod
-    def load(cls, saved: bytes, tag: Union[bytes, str] = b"", grows: bool = False) -> "Chart":
-        """The chart that these bytes were saved from, with this tag. Raises NotLoaded, or Refused where the engine refuses the record, a
-        cell, the front block or a range."""
+    def load(cls, saved: bytes, tag: Union[bytes, str] = b"", grows: bool = False, with_table: bool = False) -> "Chart":
+        """The chart that these bytes were saved from, with this tag; a table is filled anew. Raises NotLoaded, or Refused where the engine
+        refuses the record, a cell, the front block or a range."""
         has = _saved.read(saved)
         if has.tag != _tag(tag):
             raise NotLoaded(f"a chart saved with the tag {has.tag!r}, not {_tag(tag)!r}")
-        ring, cells = _zeros(c_uint8, has.state.len), (c_uint64 * (len(has.cells) // 8)).from_buffer_copy(has.cells)
+        ring, cells = zeros(c_uint8, has.state.len), (c_uint64 * (len(has.cells) // 8)).from_buffer_copy(has.cells)
         memmove(ring, has.ring, len(has.ring))
         chart = cls.__new__(cls)
         chart._own(has.state, ring, cells, has.ranges, has.tag, grows)
@@ -283,6 +309,8 @@ class Chart:
             chart.children()
         if has.ranges is not None:
             check(lib.library.smyrilox_least_ring(has.state.chosen, has.ranges).refusal)
+        if with_table:
+            chart._table = Table(has.state.chosen, chart._lock, _table.filled(has.state, cells))
         return chart
 
 
@@ -295,14 +323,6 @@ def _grey(reading: int, cell: int) -> Grey:
     if reading != Reading.UNCERTAIN:
         return Grey.DECIDED
     return Grey.GIVEN_UP if cell == _GIVEN_UP else Grey.WAITS
-
-
-def _zeros(kind, count: int):
-    """So many zeros, or an error that names the bytes."""
-    try:
-        return (kind * count)()
-    except (MemoryError, OverflowError):
-        raise NoMemory(count * sizeof(kind)) from None
 
 
 def _bytes(given) -> bytes:

@@ -146,7 +146,7 @@ def load(path: str):
 
 def declared(found):
     """The library with the arguments and answers of its functions."""
-    bytes_, cells = [POINTER(c_uint8), c_size_t], [POINTER(c_uint64), c_size_t]
+    bytes_, cells, table = ([POINTER(number), c_size_t] for number in (c_uint8, c_uint64, c_uint32))
     for name, takes, answers in (
         ("cells", [c_uint32, c_uint32], Number),
         ("least_ring", [Chosen, Ranges], Number),
@@ -158,13 +158,21 @@ def declared(found):
         ("move_queue", [State] + bytes_ + bytes_, Moved),
         ("picture", [State] + cells + bytes_, c_uint64),
         ("counts", [State] + cells, Counted),
+        ("tile_count", [c_uint32, c_uint32], Number),
+        ("setup_with_table", [Chosen, Ranges] + bytes_ + cells + table, Started),
+        ("step_with_table", [State] + bytes_ + cells + table + bytes_, Stepped),
+        ("run_with_table", [State] + bytes_ + cells + table + bytes_ + [c_uint32], Ran),
+        ("fill_table", [State] + cells + table, c_uint64),
         ("midpoint", [Interval], Point),
         ("simple_fraction", [Interval], Point),
         ("first_cut", [Interval, c_bool], Pieces),
         ("later_cut", [Interval, c_bool], Pieces),
         ("block_box", [Plot, c_uint8, Coordinate, Coordinate], Boxed),
     ):
-        function = getattr(found, "smyrilox_" + name)
+        try:
+            function = getattr(found, "smyrilox_" + name)
+        except AttributeError:
+            raise ImportError(f"smyrilox: the library is older than this module: it has no smyrilox_{name}") from None
         function.argtypes, function.restype = takes, answers
     return found
 

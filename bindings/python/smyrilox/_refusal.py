@@ -18,6 +18,7 @@ WORDS = {
     14: "the sheet is not one that the program takes",
     15: "a bound of the box is not finite, or its ends cross",
     16: "the padding leaves no width or no height",
+    17: "the table has fewer than four numbers a tile",
 }
 
 

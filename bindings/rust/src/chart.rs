@@ -1,6 +1,6 @@
 //! A picture being refined.
 
-use crate::{ffi, Block, Buffers, Children, Lent, Owned, Refusal, Setup, Verdict};
+use crate::{ffi, Block, Buffers, Children, Lent, Owned, Refusal, Setup, Table, Verdict};
 
 /// The record, the ring and the cells of a picture, which belong together.
 #[derive(Clone)]
@@ -13,6 +13,8 @@ pub struct Chart<B: Buffers = Owned> {
     pub(crate) tag: Vec<u8>,
     /// Whether a step that finds no room gets a longer ring.
     pub(crate) grows: bool,
+    /// The tile counts, where they were asked for: every step brings them up to date.
+    pub(crate) table: Option<Table>,
 }
 
 /// The number of `Refusal::Room`.
@@ -72,7 +74,7 @@ fn begin<B: Buffers>(s: &Setup, mut buffers: B) -> Result<Chart<B>, Refusal> {
         )
     };
     Refusal::check(started.refusal)?;
-    Ok(Chart { state: started.state, buffers, ranges: Some(s.used_ranges()), tag: Vec::new(), grows: false })
+    Ok(Chart { state: started.state, buffers, ranges: Some(s.used_ranges()), tag: Vec::new(), grows: false, table: None })
 }
 
 impl<B: Buffers> Chart<B> {
@@ -131,12 +133,21 @@ impl<B: Buffers> Chart<B> {
 
     fn call_step(&mut self, verdicts: &[u8]) -> ffi::Stepped {
         let (ring, cells) = self.buffers.both();
-        unsafe {
-            ffi::smyrilox_step(
-                self.state,
-                ring.as_mut_ptr(), ring.len(), cells.as_mut_ptr(), cells.len(),
-                verdicts.as_ptr(), verdicts.len(),
-            )
+        match &mut self.table {
+            None => unsafe {
+                ffi::smyrilox_step(
+                    self.state,
+                    ring.as_mut_ptr(), ring.len(), cells.as_mut_ptr(), cells.len(),
+                    verdicts.as_ptr(), verdicts.len(),
+                )
+            },
+            Some(Table { numbers, .. }) => unsafe {
+                ffi::smyrilox_step_with_table(
+                    self.state,
+                    ring.as_mut_ptr(), ring.len(), cells.as_mut_ptr(), cells.len(), numbers.as_mut_ptr(), numbers.len(),
+                    verdicts.as_ptr(), verdicts.len(),
+                )
+            },
         }
     }
 
@@ -174,12 +185,21 @@ impl<B: Buffers> Chart<B> {
 
     fn call_run(&mut self, tape: &[u8], budget: u32) -> ffi::Ran {
         let (ring, cells) = self.buffers.both();
-        unsafe {
-            ffi::smyrilox_run(
-                self.state,
-                ring.as_mut_ptr(), ring.len(), cells.as_mut_ptr(), cells.len(),
-                tape.as_ptr(), tape.len(), budget,
-            )
+        match &mut self.table {
+            None => unsafe {
+                ffi::smyrilox_run(
+                    self.state,
+                    ring.as_mut_ptr(), ring.len(), cells.as_mut_ptr(), cells.len(),
+                    tape.as_ptr(), tape.len(), budget,
+                )
+            },
+            Some(Table { numbers, .. }) => unsafe {
+                ffi::smyrilox_run_with_table(
+                    self.state,
+                    ring.as_mut_ptr(), ring.len(), cells.as_mut_ptr(), cells.len(), numbers.as_mut_ptr(), numbers.len(),
+                    tape.as_ptr(), tape.len(), budget,
+                )
+            },
         }
     }
 

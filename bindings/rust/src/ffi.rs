@@ -272,6 +272,41 @@ extern "C" {
     pub fn smyrilox_move_queue(state: State, ring: *const u8, ring_len: usize, other: *mut u8, other_len: usize) -> Moved;
     pub fn smyrilox_picture(state: State, cells: *const u64, cells_len: usize, picture: *mut u8, picture_len: usize) -> u64;
     pub fn smyrilox_counts(state: State, cells: *const u64, cells_len: usize) -> Counted;
+    pub fn smyrilox_tile_count(width: u32, height: u32) -> Number;
+    pub fn smyrilox_setup_with_table(
+        chosen: Chosen,
+        ranges: Ranges,
+        ring: *mut u8,
+        ring_len: usize,
+        cells: *mut u64,
+        cells_len: usize,
+        table: *mut u32,
+        table_len: usize,
+    ) -> Started;
+    pub fn smyrilox_step_with_table(
+        state: State,
+        ring: *mut u8,
+        ring_len: usize,
+        cells: *mut u64,
+        cells_len: usize,
+        table: *mut u32,
+        table_len: usize,
+        verdicts: *const u8,
+        verdicts_len: usize,
+    ) -> Stepped;
+    pub fn smyrilox_run_with_table(
+        state: State,
+        ring: *mut u8,
+        ring_len: usize,
+        cells: *mut u64,
+        cells_len: usize,
+        table: *mut u32,
+        table_len: usize,
+        tape: *const u8,
+        tape_len: usize,
+        budget: u32,
+    ) -> Ran;
+    pub fn smyrilox_fill_table(state: State, cells: *const u64, cells_len: usize, table: *mut u32, table_len: usize) -> u64;
     pub fn smyrilox_midpoint(x: Interval) -> Point;
     pub fn smyrilox_simple_fraction(x: Interval) -> Point;
     pub fn smyrilox_subdivision_point(x: Interval, integer: bool) -> Point;

@@ -51,6 +51,7 @@ mod refusal;
 mod room;
 mod saved;
 mod setup;
+mod table;
 mod verdict;
 mod view;
 
@@ -63,5 +64,6 @@ pub use plot::{BlockBox, MapKind, Plot};
 pub use refusal::Refusal;
 pub use saved::NotLoaded;
 pub use setup::{Setup, Variables};
+pub use table::{Table, Tile};
 pub use verdict::Verdict;
 pub use view::{Counts, Grey};

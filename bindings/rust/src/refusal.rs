@@ -28,6 +28,8 @@ pub enum Refusal {
     Bounds,
     /// The padding of a plot leaves no width or no height.
     Padding,
+    /// A lent table has under four numbers a tile.
+    Table,
     /// A number that this crate has no name for: the library is a later one.
     Other(u64),
 }
@@ -35,7 +37,7 @@ pub enum Refusal {
 use Refusal::*;
 
 /// The refusals that say no more than their number, with their words.
-const TABLE: [(u64, Refusal, &str); 14] = [
+const WORDS: [(u64, Refusal, &str); 15] = [
     (1, Side, "a side is 0 or over 32768"),
     (2, Cells, "there are fewer cells than pixels"),
     (3, Parameter, "the set of variables, the range of a parameter or the interval of a plot's edge is not legal"),
@@ -50,6 +52,7 @@ const TABLE: [(u64, Refusal, &str); 14] = [
     (14, Sheet, "the sheet is not one that the program takes"),
     (15, Bounds, "a bound of the box is not finite, or its ends cross"),
     (16, Padding, "the padding leaves no width or no height"),
+    (17, Table, "the table has fewer than four numbers a tile"),
 ];
 
 impl Refusal {
@@ -60,13 +63,13 @@ impl Refusal {
             Verdict { .. } => 5,
             NoMemory { .. } => 6,
             Other(number) => number,
-            named => TABLE.iter().find(|row| row.1 == named).map_or(0, |row| row.0),
+            named => WORDS.iter().find(|row| row.1 == named).map_or(0, |row| row.0),
         }
     }
 
     /// The refusal with a number. Only a step or a run refuses verdicts, and says itself which.
     pub(crate) fn of(number: u64) -> Refusal {
-        TABLE.iter().find(|row| row.0 == number).map_or(Other(number), |row| row.1)
+        WORDS.iter().find(|row| row.0 == number).map_or(Other(number), |row| row.1)
     }
 
     /// Refused unless the number is 0.
@@ -86,7 +89,7 @@ impl fmt::Display for Refusal {
             Verdict { child, level, byte } => write!(f, "child {child} (the first is 0), on level {level}, cannot have the verdict {byte:#04x}"),
             NoMemory { bytes } => write!(f, "there is no memory for {bytes} bytes"),
             Other(_) => write!(f, "this crate has no words for it"),
-            named => write!(f, "{}", TABLE.iter().find(|row| row.1 == *named).map_or("", |row| row.2)),
+            named => write!(f, "{}", WORDS.iter().find(|row| row.1 == *named).map_or("", |row| row.2)),
         }
     }
 }

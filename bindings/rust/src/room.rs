@@ -58,12 +58,13 @@ fn moved(state: ffi::State, ring: &[u8], other: &mut [u8]) -> Result<ffi::State,
 }
 
 /// A number of which all bytes may be 0.
-trait Number: Copy {}
+pub(crate) trait Number: Copy {}
 impl Number for u8 {}
+impl Number for u32 {}
 impl Number for u64 {}
 
 /// So many zeros, or a refusal that names the bytes. The system gives their memory when they are first written.
-fn zeros<T: Number>(count: usize) -> Result<Vec<T>, Refusal> {
+pub(crate) fn zeros<T: Number>(count: usize) -> Result<Vec<T>, Refusal> {
     if count == 0 {
         return Ok(Vec::new());
     }

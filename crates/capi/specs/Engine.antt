@@ -4,12 +4,16 @@ use mathlib.Core.Path.{_≡_}
 use mathlib.Core.Bool.{cond, _&&_}
 use mathlib.Core.List.{List, map}
 use Prim.Native.Nat.{ℕ, _*_}
+use lib.ListN.{length}
 use Rattle.refusal.specs.Number.{number}
 use Rattle.refusal.specs.declared.Refusal.the-variants as R
 use Rattle.coordinate.specs.declared.Coordinate as Inner
 use Rattle.coordinate.specs.Axis.{level}
 use Rattle.queue.specs.declared.Block.{Block}
+use Rattle.tiles.specs.Tiles.{tileCount}
+use Rattle.decide.specs.declared.Chosen.{Chosen}
 use Rattle.decide.specs.Damage.{legalSide}
+use Rattle.implicit.specs.declared.state.Ranges.{Ranges}
 use Rattle.implicit.specs.declared.state.NeededAnswer.{NeededAnswer}
 use Rattle.implicit.specs.declared.state.State.{State}
 use Rattle.implicit.specs.declared.state.MoveAnswer.{MoveAnswer}
@@ -21,7 +25,11 @@ use Rattle.implicit.specs.declared.state.RunAnswer.{RunAnswer}
 use Rattle.implicit.specs.declared.state.RunAnswer.the-variants as N
 use Rattle.implicit.specs.declared.state.ChildrenAnswer.{ChildrenAnswer}
 use Rattle.implicit.specs.declared.state.CountsAnswer.{CountsAnswer}
-use Rattle.implicit.specs.Step.{worldOf}
+use Rattle.implicit.specs.Step.{World, StepEnd, worldOf, stepAnswer, worldAfter}
+use Rattle.implicit.specs.Run.{RunResult, runAnswer, worldRun}
+use Rattle.implicit.specs.View.{ifDone}
+use Rattle.implicit.specs.Tiled.{tiledSetupAnswer, tiledRingBegun, tiledCellsBegun, tableBegun, tiledStepOf, tableAfter, tiledRunOf, tableRun}
+use Rattle.implicit.specs.Tiled.{fillAnswer, tableFilled}
 use Rattle.implicit.specs.Move.{moveOf, moveAnswer, otherAfter}
 use Rattle.implicit.specs.Answers.{setupNumber, setupState, neededNumber, neededBytes, moveNumber, moveState, stepNumber, stepState, stepEvaluations, stepVerdicts, runNumber, runState, runSteps, runEvaluations, runTape, runStop, childrenNumber, countsNumber, countsValues}
 use Rattle.capi.specs.declared.records.Coordinate.{Coordinate}
@@ -97,3 +105,53 @@ childRecord b = record { x = coordinateRecord (b .x); y = coordinateRecord (b .y
 -- children
 abbrev pub childrenRecord : ChildrenAnswer → Listed
 childrenRecord l = record { refusal = childrenNumber l; count = l .children .count; at = map childRecord (l .children .at) }
+
+-- WITH A TABLE: document 02, (iv). Each by the record, ring, cells and table that the call is lent, and then its verdicts or its tape
+
+-- "a side is 0 or over 32768", else the tiles of the picture: a table has four numbers for each
+abbrev pub tileCountRecord : ℕ → ℕ → Number
+tileCountRecord width height =
+    cond (legalSide width && legalSide height) (record { refusal = 0; value = tileCount width height }) (record { refusal = number R.Side; value = 0 })
+
+-- setup: what it answers, and the ring, the cells and the table afterwards
+abbrev pub setupWithTable : Chosen → Ranges → List ℕ → List ℕ → List ℕ → Started
+setupWithTable p r ring cells table = setupRecord (tiledSetupAnswer p r (length ring) (length cells) (length table))
+
+abbrev pub ringSetUp : Chosen → Ranges → List ℕ → List ℕ → List ℕ → List ℕ
+ringSetUp p r ring cells table = tiledRingBegun p r ring (length cells) (length table)
+
+abbrev pub cellsSetUp : Chosen → Ranges → List ℕ → List ℕ → List ℕ → List ℕ
+cellsSetUp p r ring cells table = tiledCellsBegun p r (length ring) cells (length table)
+
+abbrev pub tableSetUp : Chosen → Ranges → List ℕ → List ℕ → List ℕ → List ℕ
+tableSetUp p r ring cells table = tableBegun p r (length ring) cells table
+
+-- step: how it ends; so what it answers, the ring and the cells that it leaves, and the table
+abbrev pub stepEnding : State → List ℕ → List ℕ → List ℕ → List ℕ → StepEnd
+stepEnding s ring cells table vs = tiledStepOf (length table) (worldOf s ring cells) vs
+
+abbrev pub stepWithTable : State → List ℕ → List ℕ → List ℕ → List ℕ → Stepped
+stepWithTable s ring cells table vs = stepRecord (stepAnswer s (stepEnding s ring cells table vs))
+
+abbrev pub worldStepped : State → List ℕ → List ℕ → List ℕ → List ℕ → World
+worldStepped s ring cells table vs = worldAfter (worldOf s ring cells) (stepEnding s ring cells table vs)
+
+abbrev pub tableStepped : State → List ℕ → List ℕ → List ℕ → List ℕ → List ℕ
+tableStepped s ring cells table vs = tableAfter (worldOf s ring cells) table (stepEnding s ring cells table vs)
+
+-- run, of so many steps at most, likewise
+abbrev pub runResult : ℕ → State → List ℕ → List ℕ → List ℕ → List ℕ → RunResult
+runResult budget s ring cells table tape = tiledRunOf budget (length table) (worldOf s ring cells) tape
+
+abbrev pub runWithTable : ℕ → State → List ℕ → List ℕ → List ℕ → List ℕ → Ran
+runWithTable budget s ring cells table tape = runRecord (runAnswer s (runResult budget s ring cells table tape))
+
+abbrev pub worldTaken : ℕ → State → List ℕ → List ℕ → List ℕ → List ℕ → World
+worldTaken budget s ring cells table tape = worldRun (worldOf s ring cells) (runResult budget s ring cells table tape)
+
+abbrev pub tableTaken : ℕ → State → List ℕ → List ℕ → List ℕ → List ℕ → List ℕ
+tableTaken budget s ring cells table tape = tableRun budget (worldOf s ring cells) tape table (runResult budget s ring cells table tape)
+
+-- filling: the table afterwards
+abbrev pub tableLeft : State → List ℕ → List ℕ → List ℕ
+tableLeft s cells table = ifDone (fillAnswer s cells (length table)) (tableFilled s cells table) table

@@ -49,7 +49,7 @@ pub extern "C" fn smyrilox_cells(width: u32, height: u32) -> Number
 }
 
 // Whether there are pictures with these sides.
-fn are_legal_sides(width: u32, height: u32) -> bool
+pub(crate) fn are_legal_sides(width: u32, height: u32) -> bool
     ensures { λ r. ⌜ r ≡ (legalSide width && legalSide height) ⌝ }
 {
     is_legal_side(width) & is_legal_side(height)

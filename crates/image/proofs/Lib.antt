@@ -4,6 +4,7 @@ pub mod CellLaws
 pub mod RangeLaws
 pub mod PaintLaws
 pub mod CountLaws
+pub mod PackLaws
 pub mod ShareLaws
 pub mod BlockLaws
 pub mod DrawLaws

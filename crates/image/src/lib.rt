@@ -246,12 +246,26 @@ pub fn rectangle_holds(
     }
 }
 
+// The same, fastest where the rows have sixteen cells, as those of a tile; `rectangle_holds` is for rectangles of one cell or few.
+pub fn tile_holds(cells: &[u64], width: u32, height: u32, r: PixelRange, kind: CellKind) -> Seen
+    ensures { λ s. ⌜ s ≡ someSeen width height r kind (now (cells .entry)) ⌝ }
+{
+    if !is_ready(width, height, r, cells.len()) {
+        return Seen::Outside;
+    }
+    if rows::find_in_tile(cells, width as usize, r, kind) {
+        Seen::Yes
+    } else {
+        Seen::No
+    }
+}
+
 // The counts of the rectangle when so many blocks have been taken.
 pub fn count(cells: &[u64], width: u32, height: u32, r: PixelRange, taken: u64) -> CellTallyAnswer
     ensures { λ a. ⌜ a ≡ tallyAnswer width height r taken (now (cells .entry)) ⌝ }
 {
     if is_ready(width, height, r, cells.len()) {
-        let tally = rows::count_rows(cells, width as usize, r, taken);
+        let tally = rows::count_rectangle(cells, width as usize, r, taken);
         return CellTallyAnswer::Of(tally);
     }
     CellTallyAnswer::Outside

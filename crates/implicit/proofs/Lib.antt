@@ -15,10 +15,17 @@ pub mod StepLawsChildren
 pub mod StepLawsFront
 pub mod StepLaws
 pub mod StepLawsWent
+pub mod CellsWhole
 pub mod StepLawsSound
+pub mod TiledLaws
+pub mod TiledTests
+pub mod TiledBegin
+pub mod RunLoop
 pub mod RunLaws
+pub mod TiledRun
 pub mod RunLawsResumed
 pub mod ViewLaws
 pub mod RoomLaws
 pub mod Numbers
+pub mod TiledNumbers
 pub mod Pairs

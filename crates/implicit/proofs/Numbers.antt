@@ -46,12 +46,12 @@ use Rattle.implicit.proofs.RoomLaws.{least-exactly}
 -- LAWS OF ROWS
 
 -- a single row that applies
-unread : 8 ≡ firstOf ((8, true) ∷ [])
+pub unread : 8 ≡ firstOf ((8, true) ∷ [])
 unfolding firstOf
 unread = refl
 
 -- fewer than enough
-fewer : (m n : ℕ) → ltb n m ≡ not (leb m n)
+pub fewer : (m n : ℕ) → ltb n m ≡ not (leb m n)
 fewer m n = go (leb m n) refl
   where
     go : (k : Bool) → leb m n ≡ k → ltb n m ≡ not k
@@ -63,12 +63,12 @@ no-room : (n used : ℕ) → eqb n 0 || ltb n used ≡ not (ltb 0 n && leb used 
 no-room zero used = refl
 no-room (suc n) used = rw (ne-eqb (suc n) 0 (λ e. omega arith), lt-ltb 0 (suc n) (omega arith)) (fewer used (suc n))
 
-not-not : (t : Bool) → t ≡ not (not t)
+pub not-not : (t : Bool) → t ≡ not (not t)
 not-not true = refl
 not-not false = refl
 
 -- no block is left
-none-left : (len : ℕ) (s : State) → soundRecord len s ≡ true → queueEmpty s ≡ not (ltb (s .taken) (s .queued))
+pub none-left : (len : ℕ) (s : State) → soundRecord len s ≡ true → queueEmpty s ≡ not (ltb (s .taken) (s .queued))
 none-left len s h = rw (waiting-by-count len s h) (not-not (queueEmpty s))
 
 -- THE NUMBERS
@@ -91,6 +91,7 @@ never-zero R.Empty e = omega arith
 never-zero R.Sheet e = omega arith
 never-zero R.Bounds e = omega arith
 never-zero R.Padding e = omega arith
+never-zero R.Table e = omega arith
 
 -- setup
 pub setup-number : (p : Chosen) (r : Ranges) (len count : ℕ)
@@ -181,7 +182,7 @@ blockRows tape w vs (T.Front b last head used) =
     ∷ (6, ltb (length (w .ring)) (used + length (newBytes w b own)))
     ∷ []
 
-block-number : (tape : Bool) (w : World) (vs : List ℕ) (t : Taken) → stepNumber (stepAnswer (w .state) (afterTaking tape w vs t)) ≡ firstOf (blockRows tape w vs t)
+pub block-number : (tape : Bool) (w : World) (vs : List ℕ) (t : Taken) → stepNumber (stepAnswer (w .state) (afterTaking tape w vs t)) ≡ firstOf (blockRows tape w vs t)
 unfolding afterTaking judged unless blockRows
 block-number tape w vs T.Damaged = unread
 block-number tape w vs T.Outside = unread

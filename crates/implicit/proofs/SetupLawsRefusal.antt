@@ -93,6 +93,11 @@ unfolding begins
 first-of true e f g h = (refl, h)
 first-of false e f g h = absurd (false≢true (sym g ∙ ap begins h))
 
+-- its sides are legal
+pub begun-sides : (p : Chosen) (r : Ranges) (len count : ℕ) → setupRefusal p r len count ≡ E.Begun → (legalSide (p .width) && legalSide (p .height)) ≡ true
+unfolding setupRefusal begins
+begun-sides p r len count e = first-of (legalSide (p .width) && legalSide (p .height)) _ _ refl e .0
+
 pub accepted : (p : Chosen) (r : Ranges) (len count : ℕ) → setupRefusal p r len count ≡ E.Begun → Accepted p r len count
 unfolding setupRefusal begins
 accepted p r len count e =

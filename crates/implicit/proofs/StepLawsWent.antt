@@ -54,7 +54,7 @@ pub record Went (tape : Bool) (w : World) (vs : List ℕ) (left : World) (evals 
   pub cost : evals ≡ evaluations (outcomesOf w block own)
   pub bytes-are : bytes ≡ length (childrenOf (w .state .chosen) block)
 
-passed : (why : Refusal) (t : Bool) (rest : StepEnd) (left : World) (e n : ℕ) → unless why t rest ≡ finished left e n → (t ≡ true) × (rest ≡ finished left e n)
+pub passed : (why : Refusal) (t : Bool) (rest : StepEnd) (left : World) (e n : ℕ) → unless why t rest ≡ finished left e n → (t ≡ true) × (rest ≡ finished left e n)
 unfolding unless
 passed why true rest left e n h = (refl, h)
 passed why false rest left e n h = let z : _≡_ {A = ℕ} 0 1 = cc in absurd (omega arith)

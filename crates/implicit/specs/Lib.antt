@@ -9,6 +9,8 @@ pub mod StepComputed
 pub mod Run
 pub mod RunComputed
 pub mod View
+pub mod Tiled
+pub mod TiledComputed
 pub mod Room
 pub mod Move
 pub mod Answers

@@ -36,20 +36,28 @@ progressAfter p (finished next evals bytes) = stepped p (next .state) evals byte
 abbrev pub nextStep : Progress → List ℕ → List ℕ → List ℕ → StepEnd
 nextStep p ring cells tape = tapeStepOf (worldOf (p .state) ring cells) (drop (p .tape) tape)
 
--- one pass of the loop: the queue is empty, the budget is spent, or a step
-unfoldable pub progressOnce : ℕ → Progress → List ℕ → List ℕ → List ℕ → Progress
-progressOnce budget p ring cells tape =
+-- one pass of the loop: the queue is empty, the budget is spent, or the next step, which ends like this
+unfoldable pub progressOnce : ℕ → Progress → List ℕ → StepEnd → Progress
+progressOnce budget p cells next =
     cond (queueEmpty (p .state)) (halted p (emptyEnding (p .state .chosen) cells))
-    (cond (leb budget (p .steps)) (halted p E.More) (progressAfter p (nextStep p ring cells tape)))
+    (cond (leb budget (p .steps)) (halted p E.More) (progressAfter p next))
 
-unfoldable pub worldOnce : ℕ → Progress → List ℕ → List ℕ → List ℕ → World
-worldOnce budget p ring cells tape =
-    let w = worldOf (p .state) ring cells in
-    cond (queueEmpty (p .state)) w (cond (leb budget (p .steps)) w (worldAfter w (nextStep p ring cells tape)))
+unfoldable pub worldOnce : ℕ → Progress → World → StepEnd → World
+worldOnce budget p w next = cond (queueEmpty (p .state)) w (cond (leb budget (p .steps)) w (worldAfter w next))
 
 -- what is known of the record between two steps: it is sound, if only its use is
 abbrev pub SoundByUse : ℕ → State → Type 0
 SoundByUse len s = soundUse s ≡ true → soundRecord len s ≡ true
+
+-- how far the run is, once it went on from a world by the step that comes next
+abbrev pub OnceGone : ℕ → Progress → World → StepEnd → Progress → List ℕ → List ℕ → Type 0
+OnceGone budget p w next r ring cells =
+    (r ≡ progressOnce budget p (w .cells) next) × (worldOf (r .state) ring cells ≡ worldOnce budget p w next) × SoundByUse (length ring) (r .state)
+
+-- and once that step was tried
+abbrev pub Tried : Progress → World → StepEnd → Progress → List ℕ → List ℕ → Type 0
+Tried p w next r ring cells =
+    (r ≡ progressAfter p next) × (worldOf (r .state) ring cells ≡ worldAfter w next) × SoundByUse (length ring) (r .state)
 
 -- what was counted stays small, by the budget
 pub record Bounded (budget : ℕ) (tape : List ℕ) (p : Progress) : Type 0 where

@@ -11,6 +11,8 @@ mod running;
 mod setting_up;
 mod state;
 mod stepping;
+mod tiled;
+mod tiled_running;
 mod view;
 
 pub use listing::children;
@@ -32,5 +34,9 @@ pub use state::State;
 pub use state::StepAnswer;
 pub use state::Tally;
 pub use stepping::step;
+pub use tiled::fill_table;
+pub use tiled::setup_with_table;
+pub use tiled::step_with_table;
+pub use tiled_running::run_with_table;
 pub use view::counts;
 pub use view::picture;

@@ -5,9 +5,9 @@ ghost use Prim.Native.Nat.{_+_, _*_, _-_, _^_, _≤_, _<_};
 ghost use lib.Dec.{leb};
 ghost use lib.ListN.{length};
 ghost use Rattle.implicit.specs.Record.{pixelCount, soundRecord};
-ghost use Rattle.implicit.specs.Step.{worldOf, worldAfter};
+ghost use Rattle.implicit.specs.Step.{worldOf};
 ghost use Rattle.implicit.specs.Run.{RunsAs, runOf, runFrom, emptyEnding};
-ghost use Rattle.implicit.specs.RunComputed.{halted, stepped, progressAfter, nextStep, progressOnce, worldOnce, SoundByUse, Bounded, RunTo};
+ghost use Rattle.implicit.specs.RunComputed.{halted, stepped, nextStep, SoundByUse, OnceGone, Tried, Bounded, RunTo};
 use crate::record::is_empty;
 use crate::record::is_sound;
 use crate::record::pixel_count;
@@ -22,13 +22,13 @@ use image::Seen;
 use refusal::Refusal;
 
 // How far a run is: the record that its steps leave, what they took, and, once it is over, how it ended.
-struct Progress {
-    state: State,
-    steps: u64,
-    evaluations: u64,
-    tape: usize,
-    ending: Ending,
-    going: bool,
+pub(crate) struct Progress {
+    pub state: State,
+    pub steps: u64,
+    pub evaluations: u64,
+    pub tape: usize,
+    pub ending: Ending,
+    pub going: bool,
 }
 
 // Steps until the queue is empty, the budget is spent or a step refuses.
@@ -50,7 +50,7 @@ pub fn run(s: State, ring: &mut [u8], cells: &mut [u64], tape: &[u8], budget: u3
     report(take_steps(s, ring, cells, tape, budget))
 }
 
-fn report(p: Progress) -> RunAnswer
+pub(crate) fn report(p: Progress) -> RunAnswer
     ensures { λ r. ⌜ r ≡ RunAnswer.Ended (p .state) (p .steps) (p .evaluations) (p .tape) (p .ending) ⌝ }
 {
     let state = p.state;
@@ -86,7 +86,8 @@ fn take_steps(s: State, ring: &mut [u8], cells: &mut [u64], tape: &[u8], budget:
 // The tests of a run in their order, and the next step.
 fn go_on(p: Progress, ring: &mut [u8], cells: &mut [u64], tape: &[u8], budget: u32) -> Progress
     requires { ⌜ Bounded budget (now tape) p × (leb (pixelCount (p .state .chosen)) (length (now cells)) ≡ true) × SoundByUse (length (now ring)) (p .state) ⌝ }
-    ensures { λ r. ⌜ (r ≡ progressOnce budget p (now (ring .entry)) (now (cells .entry)) (now (tape .entry))) × (worldOf (r .state) (now (ring .exit)) (now (cells .exit)) ≡ worldOnce budget p (now (ring .entry)) (now (cells .entry)) (now (tape .entry))) × SoundByUse (length (now (ring .exit))) (r .state) ⌝ }
+    ensures { λ r. ⌜ OnceGone budget p (worldOf (p .state) (now (ring .entry)) (now (cells .entry)))
+        (nextStep p (now (ring .entry)) (now (cells .entry)) (now (tape .entry))) r (now (ring .exit)) (now (cells .exit)) ⌝ }
 {
     if is_empty(p.state) {
         let s = p.state;
@@ -99,7 +100,7 @@ fn go_on(p: Progress, ring: &mut [u8], cells: &mut [u64], tape: &[u8], budget: u
 }
 
 // How a run ends whose queue is empty.
-fn empty_ending(p: Chosen, cells: &[u64]) -> Ending
+pub(crate) fn empty_ending(p: Chosen, cells: &[u64]) -> Ending
     requires { ⌜ leb (pixelCount p) (length (now cells)) ≡ true ⌝ }
     ensures { λ r. ⌜ r ≡ emptyEnding p (now (cells .entry)) ⌝ }
 {
@@ -116,7 +117,7 @@ fn empty_ending(p: Chosen, cells: &[u64]) -> Ending
     }
 }
 
-fn halt(p: Progress, ending: Ending) -> Progress
+pub(crate) fn halt(p: Progress, ending: Ending) -> Progress
     ensures { λ r. ⌜ r ≡ halted p ending ⌝ }
 {
     let state = p.state;
@@ -133,7 +134,8 @@ fn halt(p: Progress, ending: Ending) -> Progress
 // The next step, on the rest of the tape.
 fn go_step(p: Progress, ring: &mut [u8], cells: &mut [u64], tape: &[u8]) -> Progress
     requires { ⌜ (p .tape ≤ length (now tape)) × (p .steps < 2 ^ 32) × (p .evaluations ≤ 24 * p .steps) × SoundByUse (length (now ring)) (p .state) ⌝ }
-    ensures { λ r. ⌜ (r ≡ progressAfter p (nextStep p (now (ring .entry)) (now (cells .entry)) (now (tape .entry)))) × (worldOf (r .state) (now (ring .exit)) (now (cells .exit)) ≡ worldAfter (worldOf (p .state) (now (ring .entry)) (now (cells .entry))) (nextStep p (now (ring .entry)) (now (cells .entry)) (now (tape .entry)))) × SoundByUse (length (now (ring .exit))) (r .state) ⌝ }
+    ensures { λ r. ⌜ Tried p (worldOf (p .state) (now (ring .entry)) (now (cells .entry)))
+        (nextStep p (now (ring .entry)) (now (cells .entry)) (now (tape .entry))) r (now (ring .exit)) (now (cells .exit)) ⌝ }
 {
     let at = p.tape;
     match step_on_tape(p.state, ring, cells, &tape[at..]) {
@@ -146,7 +148,7 @@ fn go_step(p: Progress, ring: &mut [u8], cells: &mut [u64], tape: &[u8]) -> Prog
     }
 }
 
-fn add_step(p: Progress, state: State, evaluations: u64, verdicts: usize) -> Progress
+pub(crate) fn add_step(p: Progress, state: State, evaluations: u64, verdicts: usize) -> Progress
     requires { ⌜ (p .steps < 2 ^ 32) × (p .evaluations + evaluations < 2 ^ 64) × (p .tape + verdicts < 2 ^ 64) ⌝ }
     ensures { λ r. ⌜ r ≡ stepped p state evaluations verdicts ⌝ }
 {

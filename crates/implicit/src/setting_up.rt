@@ -21,7 +21,7 @@ use queue::starting_last;
 use refusal::Refusal;
 
 // Whether a setup begins.
-enum SetupEnd {
+pub(crate) enum SetupEnd {
     Rejected(Refusal),
     Begun,
 }
@@ -35,7 +35,7 @@ fn are_ranges_legal(set: u8, ranges: Ranges) -> bool
 }
 
 // The first refusal that applies, if any, to a ring of so many bytes and so many cells.
-fn refuse(p: Chosen, ranges: Ranges, len: usize, count: usize) -> SetupEnd
+pub(crate) fn refuse(p: Chosen, ranges: Ranges, len: usize, count: usize) -> SetupEnd
     ensures { λ r. ⌜ r ≡ setupRefusal p ranges len count ⌝ }
 {
     if !(is_legal_side(p.width) & is_legal_side(p.height)) {
@@ -68,7 +68,7 @@ pub fn least_ring(chosen: Chosen, ranges: Ranges) -> NeededAnswer
 }
 
 // The first blocks queued, every pixel's cell naming the last of them, and the record.
-fn begin(p: Chosen, ranges: Ranges, ring: &mut [u8], cells: &mut [u64]) -> State
+pub(crate) fn begin(p: Chosen, ranges: Ranges, ring: &mut [u8], cells: &mut [u64]) -> State
     requires { ⌜ setupRefusal p ranges (length (now ring)) (length (now cells)) ≡ SetupEnd.Begun ⌝ }
     ensures { λ r. ⌜ r ≡ startRecord p ranges (length (now (ring .entry))) ⌝ }
     ensures { λ r. ⌜ now (ring .exit) ≡ startRing p ranges (now (ring .entry)) ⌝ }

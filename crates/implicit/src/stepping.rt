@@ -4,7 +4,8 @@ ghost use mathlib.Core.Path.{_≡_};
 ghost use Prim.Native.Nat.{_^_, _≤_};
 ghost use lib.ListN.{length};
 ghost use Rattle.queue.specs.Queue.{taken};
-ghost use Rattle.implicit.specs.Step.{worldOf, stepOf, tapeStepOf, EndsAs};
+ghost use Rattle.implicit.specs.Record.{soundRecord};
+ghost use Rattle.implicit.specs.Step.{worldOf, stepWith, stepOf, tapeStepOf, EndsAs};
 ghost use Rattle.implicit.specs.RunComputed.{SoundByUse};
 ghost use Rattle.implicit.specs.StepComputed.{decisionAs, finishedBy, finishedAs};
 use crate::commit::Behind;
@@ -69,6 +70,44 @@ pub(crate) fn step_on_tape(s: State, ring: &mut [u8], cells: &mut [u64], tape: &
         cells,
         tape,
         true,
+    );
+    match check_room(p, s.queued, back, ring.len(), d) {
+        Check::Passed => {
+            let left = commit(p, s.taken, s.queued, back, ring, cells, d);
+            finish(s, d, left)
+        }
+        Check::Refused(why) => StepAnswer::Refused { why, state: s },
+    }
+}
+
+// One step, single or on a tape, of a record that is known to be sound or not: for the calls that take a table. A third time the same three parts, so that
+// the two above stay compiled into their callers.
+pub(crate) fn step_by(
+    s: State,
+    sound: bool,
+    ring: &mut [u8],
+    cells: &mut [u64],
+    verdicts: &[u8],
+    tape: bool,
+) -> StepAnswer
+    requires { ⌜ sound ≡ soundRecord (length (now ring)) s ⌝ }
+    ensures { λ r. ⌜ EndsAs (worldOf s (now (ring .entry)) (now (cells .entry)))
+        (stepWith tape (worldOf s (now (ring .entry)) (now (cells .entry))) (now (verdicts .entry))) r (now (ring .exit)) (now (cells .exit)) ⌝ }
+{
+    let p = s.chosen;
+    let front = s.front;
+    let back = s.back;
+    let d = decide(
+        p,
+        sound,
+        s.taken < s.queued,
+        ring,
+        s.head,
+        s.used,
+        front,
+        cells,
+        verdicts,
+        tape,
     );
     match check_room(p, s.queued, back, ring.len(), d) {
         Check::Passed => {

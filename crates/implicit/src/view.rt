@@ -42,7 +42,7 @@ pub fn counts(s: State, cells: &[u64]) -> CountsAnswer
 }
 
 // Whether so many bytes have room for the picture of a sound record with sound cells, or why not.
-fn examine(s: State, cells: &[u64], room: usize) -> CallAnswer
+pub(crate) fn examine(s: State, cells: &[u64], room: usize) -> CallAnswer
     ensures { λ r. ⌜ r ≡ pictureAnswer s (now (cells .entry)) room ⌝ }
 {
     let pixels = pixel_count(s.chosen);
@@ -63,7 +63,7 @@ fn examine(s: State, cells: &[u64], room: usize) -> CallAnswer
 }
 
 // Whether no pixel's cell is damaged.
-fn are_sound_cells(s: State, cells: &[u64]) -> bool
+pub(crate) fn are_sound_cells(s: State, cells: &[u64]) -> bool
     requires { ⌜ pixelCount (s .chosen) ≤ length (now cells) ⌝ }
     ensures { λ r. ⌜ r ≡ cellsSound s (now (cells .entry)) ⌝ }
 {

@@ -45,7 +45,7 @@ setup-begins chosen ranges ring cells ring′ cells′ r held answer ring-left c
 
 -- STEP
 
-ends-finished : (w : World) (e : StepEnd) (s : State) (evals bytes : ℕ) (ring cells : List ℕ) → EndsAs w e (T.Finished s evals bytes) ring cells
+pub ends-finished : (w : World) (e : StepEnd) (s : State) (evals bytes : ℕ) (ring cells : List ℕ) → EndsAs w e (T.Finished s evals bytes) ring cells
     → e ≡ finished (worldOf s ring cells) evals bytes
 ends-finished w (refused why) s evals bytes ring cells h = let f = h .0 in let z : _≡_ {A = ℕ} 0 1 = cc in absurd (omega arith)
 ends-finished w (finished left m n) s evals bytes ring cells h =
@@ -55,7 +55,7 @@ ends-finished w (finished left m n) s evals bytes ring cells h =
     let k : bytes ≡ n = cc in
     rw (i, j, k, h .1, h .2) refl
 
-ends-refused : (w : World) (e : StepEnd) (why : Refusal) (s : State) (ring cells : List ℕ) → EndsAs w e (T.Refused why s) ring cells → worldOf s ring cells ≡ w
+pub ends-refused : (w : World) (e : StepEnd) (why : Refusal) (s : State) (ring cells : List ℕ) → EndsAs w e (T.Refused why s) ring cells → worldOf s ring cells ≡ w
 ends-refused w (refused reason) why s ring cells h = let f = h .0 in let i : s ≡ w .state = cc in rw (i, h .1, h .2) refl
 ends-refused w (finished left m n) why s ring cells h = let f = h .0 in let z : _≡_ {A = ℕ} 0 1 = cc in absurd (omega arith)
 
@@ -75,7 +75,7 @@ module _ (s : State) (ring cells verdicts ring′ cells′ : List ℕ) (r : Step
 
 -- RUN
 
-runs-ended : (w : World) (a : RunResult) (s : State) (steps evals bytes : ℕ) (ending : Ending) (ring cells : List ℕ)
+pub runs-ended : (w : World) (a : RunResult) (s : State) (steps evals bytes : ℕ) (ending : Ending) (ring cells : List ℕ)
     → RunsAs w a (A.Ended s steps evals bytes ending) ring cells → a ≡ hasRun (ranTo s ring cells steps evals bytes ending)
 runs-ended w (notRun why) s steps evals bytes ending ring cells h = let f = h .0 in let z : _≡_ {A = ℕ} 0 1 = cc in absurd (omega arith)
 runs-ended w (hasRun e) s steps evals bytes ending ring cells h =

@@ -1,7 +1,7 @@
 -- The invariant of a world that a setup and finished steps leave: its record is sound, its bytes hold undamaged blocks, as many as are waiting, and
 -- no pixel's cell is damaged. So none of the tests for damage refuses a step on it. Assumes nothing.
-use mathlib.Core.Path.{_≡_, refl, ap}
-use mathlib.Core.Bool.{Bool, true, false, not, _&&_, _||_}
+use mathlib.Core.Path.{_≡_, ap}
+use mathlib.Core.Bool.{Bool, true, false, not}
 use mathlib.Core.List.{List, [], _∷_}
 use Prim.Native.Nat.{ℕ, _+_, _-_, _*_, _≤_, _<_}
 use native.Mathlib.Omega.{arith}
@@ -13,7 +13,6 @@ use Rattle.base.proofs.Test.{and-both}
 use Rattle.base.specs.Lists.{Every}
 use Rattle.refusal.specs.declared.Refusal.the-variants as R
 use Rattle.image.specs.Cell.{Cell, meanings, meaningOf, isDamaged}
-use Rattle.image.specs.Painting.{someOf, everyOf}
 use Rattle.image.proofs.BlockLaws.{pixels-every}
 use Rattle.queue.specs.declared.Block.{Block}
 use Rattle.queue.specs.declared.Taken.the-variants as T
@@ -27,6 +26,7 @@ use Rattle.decide.specs.Children.{childrenOf}
 use Rattle.implicit.specs.Record.{pixelCount, soundRecord}
 use Rattle.implicit.specs.Listing.{frontOf}
 use Rattle.implicit.specs.Step.{World, refused, unless, enoughVerdicts, blockSound, judged, afterTaking, stepWith}
+pub use Rattle.implicit.proofs.CellsWhole.{not-damaged}
 use Rattle.implicit.proofs.RecordLaws.{SoundRecord, sound-record, sound-chosen}
 use Rattle.promises.specs.Chart.{queuedBlocks}
 use Rattle.promises.proofs.CellsKept.{PixelsWhole}
@@ -49,18 +49,7 @@ keeps-queue w q k =
     let n : w .state .queued - w .state .taken ≡ length q = omega (arith, k .count) in
     rw n (queue-is q (k .holds))
 
--- where every cell passes as undamaged none is damaged
-pub not-damaged : (test : Cell → Bool) (l : List Cell) → everyOf (λ c. not (test c)) l ≡ true → someOf test l ≡ false
-unfolding everyOf someOf
-not-damaged test [] e = refl
-not-damaged test (c ∷ l) e = go (test c) (not-damaged test l) e
-  where
-    go : (t : Bool) → (everyOf (λ c. not (test c)) l ≡ true → someOf test l ≡ false) → (not t && everyOf (λ c. not (test c)) l) ≡ true
-        → (t || someOf test l) ≡ false
-    go true ih h = let z : _≡_ {A = ℕ} 0 1 = cc in absurd (omega arith)
-    go false ih h = ih h
-
--- so no block covers a damaged one
+-- no block covers a damaged cell
 pub cells-whole : (p : Chosen) (b : Block) (l : List Cell) → p .width * p .height ≤ length l → PixelsWhole p l → cellDamaged p b l ≡ false
 unfolding cellDamaged
 cells-whole p b l h k =
@@ -83,7 +72,10 @@ module _ (w : World) (c : Block) (rest : List Block) (k : Keeps w (c ∷ rest)) 
   record-facts = sound-record (length (w .ring)) (w .state) (k .sound-record)
 
   pub fits : fitsRing (length (w .ring)) (w .state .head) (w .state .used) ≡ true
-  fits = let f = record-facts in and-both (ltb (w .state .head) (length (w .ring))) (leb (w .state .used) (length (w .ring))) (lt-ltb (w .state .head) (length (w .ring)) (f .head)) (le-leb (w .state .used) (length (w .ring)) (f .used))
+  fits =
+      let f = record-facts in
+      and-both (ltb (w .state .head) (length (w .ring))) (leb (w .state .used) (length (w .ring)))
+      (lt-ltb (w .state .head) (length (w .ring)) (f .head)) (le-leb (w .state .used) (length (w .ring)) (f .used))
 
   taking : (frontOf (w .state) (w .ring) ≡ T.Front c (remembered c) head′ used′) × (size ≤ w .state .used)
       × BytesHold (w .state .chosen .set) (remembered c) (w .state .back) (content (w .ring) head′ used′) rest
@@ -115,10 +107,20 @@ module _ (w : World) (c : Block) (rest : List Block) (k : Keeps w (c ∷ rest)) 
   unfolding stepWith afterTaking unless
   step-passes tape vs =
       let n : w .state .taken < w .state .queued = omega (arith, k .count) in
-      rw (k .sound-record, le-leb (pixelCount (w .state .chosen)) (length (w .cells)) (k .enough), lt-ltb (w .state .taken) (w .state .queued) n, front-is, fine)
+      rw (
+        k .sound-record,
+        le-leb (pixelCount (w .state .chosen)) (length (w .cells)) (k .enough),
+        lt-ltb (w .state .taken) (w .state .queued) n,
+        front-is,
+        fine,
+      )
 
 -- ON AN EMPTY QUEUE a step is refused by 13
 pub step-empty : (w : World) → Keeps w [] → (tape : Bool) (vs : List ℕ) → stepWith tape w vs ≡ refused R.Empty
 unfolding stepWith unless
 step-empty w k tape vs =
-    rw (k .sound-record, le-leb (pixelCount (w .state .chosen)) (length (w .cells)) (k .enough), le-ltb (w .state .taken) (w .state .queued) (omega (arith, k .count)))
+    rw (
+      k .sound-record,
+      le-leb (pixelCount (w .state .chosen)) (length (w .cells)) (k .enough),
+      le-ltb (w .state .taken) (w .state .queued) (omega (arith, k .count)),
+    )

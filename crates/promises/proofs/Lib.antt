@@ -1,5 +1,6 @@
--- What is promised of the engine. Promises is the reader's entry: each promise under its sentence.
+-- What is promised of the engine. Promises is the reader's entry, and TablePromises that of the tile counts: each promise under its sentence.
 pub mod Promises
+pub mod TablePromises
 -- the words of the engine and those of `theory`
 pub mod Covering
 pub mod Snapshots
@@ -47,11 +48,18 @@ pub mod ByBoxes
 pub mod ColoursHold
 pub mod Greys
 pub mod Screen
+-- the table of tile counts
+pub mod TableSteps
+pub mod TableKept
+pub mod TableRuns
+pub mod TableAnswered
+pub mod TableRefused
 -- closed instances. Claims stands before the laws in the alphabet, so it is checked before them, and a sentence that became false is refused there first
 pub mod Claims
 pub mod ClaimsBoxes
 pub mod ClaimsRoom
 pub mod ClaimsShare
+pub mod ClaimsTables
 pub mod ExampleSteps
 pub mod ExampleRoom
 pub mod Example

@@ -115,7 +115,7 @@ suffices-goes w (c ∷ rest) k vs r s =
 -- THE OTHER CALLS
 
 -- all cells of the pixels are undamaged
-pixels-fine : (p : Chosen) (cells : List ℕ) → pixelCount p ≤ length cells → PixelsWhole p (meanings cells) → someOf isDamaged (pixelCells p cells) ≡ false
+pub pixels-fine : (p : Chosen) (cells : List ℕ) → pixelCount p ≤ length cells → PixelsWhole p (meanings cells) → someOf isDamaged (pixelCells p cells) ≡ false
 pixels-fine p cells h k =
     not-damaged isDamaged (pixelCells p cells)
     (whole-every (p .width) (p .height) (meanings cells) (rw (L.length-map cells meaningOf) h) (λ c. not (isDamaged c)) .1 (λ x y i j. ap not (k x y i j)))

@@ -8,3 +8,4 @@ pub mod ByBoxes
 pub mod Sentences
 pub mod EnoughRoom
 pub mod Alike
+pub mod Tables

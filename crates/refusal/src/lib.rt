@@ -36,6 +36,8 @@ pub enum Refusal {
     Bounds,
     // 16: padding leaves no width or height.
     Padding,
+    // 17: a table of tile counts with fewer than four numbers a tile.
+    Table,
 }
 
 // The number of a refusal.
@@ -59,6 +61,7 @@ pub fn number_of(r: Refusal) -> u8
         Refusal::Sheet => 14,
         Refusal::Bounds => 15,
         Refusal::Padding => 16,
+        Refusal::Table => 17,
     }
 }
 

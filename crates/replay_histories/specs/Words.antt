@@ -1,13 +1,35 @@
--- What stands in the table of words.
+-- The tables' lengths, and what stands in the table of words.
+use mathlib.Core.Path.{_≡_}
 use mathlib.Core.List.{List}
-use Prim.Native.Nat.{ℕ, _+_, _/_, _%_}
+use Prim.Native.Nat.{ℕ, _+_, _/_, _%_, _≤_}
 use lib.Ieee.{binary64, ofBits}
-use lib.ListN.{getD}
+use lib.ListN.{length, getD}
 use Rattle.interval.specs.declared.Interval.{Interval}
 use Rattle.queue.specs.declared.Last.{Last}
 use Rattle.decide.specs.declared.Chosen.{Chosen}
 use Rattle.implicit.specs.declared.state.State.{State}
 use Rattle.implicit.specs.declared.state.Ranges.{Ranges}
+use Rattle.replay_histories.specs.declared.record.Ends.{Ends}
+
+-- the table of words, that of bytes, and the tile counts that a call is lent out of the words
+abbrev pub WordTable : List ℕ → Type 0
+WordTable l = length l ≡ 2048
+
+abbrev pub ByteTable : List ℕ → Type 0
+ByteTable l = length l ≡ 5120
+
+abbrev pub NumberTable : List ℕ → Type 0
+NumberTable l = length l ≡ 512
+
+-- what a call is lent begins and ends in the tables
+abbrev pub EndsInTables : Ends → Type 0
+EndsInTables e =
+    (e .ring ≤ 3072) ×
+    (128 ≤ e .cells) × (e .cells ≤ 1536) ×
+    (3072 ≤ e .verdicts) × (e .verdicts ≤ 3584) ×
+    (3584 ≤ e .picture) × (e .picture ≤ 5120) ×
+    (3072 ≤ e .other) × (e .other ≤ 4096) ×
+    (e .numbers ≤ 512)
 
 -- bounds by their bit patterns
 unfoldable pub intervalIn : List ℕ → ℕ → Interval

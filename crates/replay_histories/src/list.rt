@@ -1,5 +1,6 @@
-// Reading the list: the next byte, and changes of the tables. A change is a number of stretches; a stretch says what it changes (0 the table of bytes, else that of words and
-// how many bytes each value has), the place of its first value in two bytes, the number of its values, and the values; all with the higher byte first.
+// Reading the list: the next byte, and changes of the tables. A change is a number of stretches; a stretch says what it changes (0 the table of bytes, else
+// that of words and how many bytes each value has), the place of its first value in two bytes, the number of its values, and the values; all with the higher
+// byte first.
 ghost use mathlib.Core.Path.{_≡_};
 ghost use Prim.Native.Nat.{_<_};
 use crate::tables::put;

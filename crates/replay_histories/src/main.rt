@@ -1,15 +1,19 @@
 // Replays recorded calls of the engine from standard input, and prints for each part of the list how many calls agreed, and the first places that differed.
 //
-// Two tables hold all that a call is given and leaves: 384 words (record, arguments, answer, children, cells) and 4096 bytes (ring, verdicts, picture, other
-// ring). An entry of the list names a call, changes the tables to what the call is given, and changes them to what it must leave. The call works on copies of
-// them, which are then compared with the tables, every word and every byte. make.py beside this folder writes the list, tables.py says where each thing stands.
+// Two tables hold all that a call is given and leaves: words (record, arguments, answer, children, cells, tile counts) and bytes (ring, verdicts, picture,
+// other ring). An entry of the list names a call, changes the tables to what the call is given, and changes them to what it must leave. The call works on
+// copies of them, which are then compared with the tables, every word and every byte. make.py beside this folder writes the list, tables.py says where each
+// thing stands.
 ghost use mathlib.Core.Path.{_≡_};
 ghost use Prim.Native.Nat.{_+_, _≤_, _<_};
 ghost use lib.ListN.{length};
 ghost use Rattle.replay_histories.specs.Counting.{calls, closed, Same, CountedBy};
+ghost use Rattle.replay_histories.specs.Words.{WordTable, ByteTable};
 use calls::play;
 use list::change;
 use list::next_byte;
+use tables::BYTES;
+use tables::WORDS;
 use tables::copy_bytes;
 use tables::copy_words;
 use tally::CallScore;
@@ -17,11 +21,13 @@ use tally::close_part;
 use tally::count;
 use tally::say;
 
+mod answers;
 mod calls;
 mod list;
 mod record;
 mod tables;
 mod tally;
+mod with_table;
 
 // What a call is given, into the tables and their copies.
 fn give(words: &mut [u64], bytes: &mut [u8], got: &mut [u64], left: &mut [u8])
@@ -53,7 +59,7 @@ fn replay_call(
     left: &mut [u8],
 ) -> CallScore
     requires { ⌜ calls t < 4000000 ⌝ }
-    requires { ⌜ (length (now words) ≡ 384) × (length (now bytes) ≡ 4096) × (length (now got) ≡ 384) × (length (now left) ≡ 4096) ⌝ }
+    requires { ⌜ WordTable (now words) × ByteTable (now bytes) × WordTable (now got) × ByteTable (now left) ⌝ }
     ensures { λ r. ⌜ CountedBy (Same (now (words .exit)) (now (bytes .exit)) (now (got .exit)) (now (left .exit))) t r ⌝ }
     ensures { λ r. ⌜ calls r ≡ calls t + 1 ⌝ }
 {
@@ -72,7 +78,7 @@ fn replay_entry(
     left: &mut [u8],
 ) -> CallScore
     requires { ⌜ calls t < 4000000 ⌝ }
-    requires { ⌜ (length (now words) ≡ 384) × (length (now bytes) ≡ 4096) × (length (now got) ≡ 384) × (length (now left) ≡ 4096) ⌝ }
+    requires { ⌜ WordTable (now words) × ByteTable (now bytes) × WordTable (now got) × ByteTable (now left) ⌝ }
     ensures { λ r. ⌜ (call ≡ 255 → r ≡ closed t) ⌝ }
     ensures { λ r. ⌜ ((call ≡ 255 → ⊥) → CountedBy (Same (now (words .exit)) (now (bytes .exit)) (now (got .exit)) (now (left .exit))) t r) ⌝ }
     ensures { λ r. ⌜ calls r ≤ calls t + 1 ⌝ }
@@ -85,7 +91,7 @@ fn replay_entry(
 
 // All entries, up to a 0 or the end of the list.
 fn replay(words: &mut [u64], bytes: &mut [u8], got: &mut [u64], left: &mut [u8]) -> CallScore
-    requires { ⌜ (length (now words) ≡ 384) × (length (now bytes) ≡ 4096) × (length (now got) ≡ 384) × (length (now left) ≡ 4096) ⌝ }
+    requires { ⌜ WordTable (now words) × ByteTable (now bytes) × WordTable (now got) × ByteTable (now left) ⌝ }
     ensures { λ r. ⌜ calls r ≤ 1000000 ⌝ }
 {
     let mut t = CallScore {
@@ -107,10 +113,10 @@ fn replay(words: &mut [u64], bytes: &mut [u8], got: &mut [u64], left: &mut [u8])
 }
 
 fn main() {
-    let mut words = [0u64; 384];
-    let mut bytes = [0u8; 4096];
-    let mut got = [0u64; 384];
-    let mut left = [0u8; 4096];
+    let mut words = [0u64; WORDS];
+    let mut bytes = [0u8; BYTES];
+    let mut got = [0u64; WORDS];
+    let mut left = [0u8; BYTES];
     let t = replay(&mut words, &mut bytes, &mut got, &mut left);
     say(b"all: ", t.before + t.agree);
     say(b" agree, ", t.wrong + t.differ);

@@ -2,7 +2,13 @@
 ghost use mathlib.Core.Path.{_≡_};
 ghost use Prim.Native.Nat.{_+_, _%_, _<_, _≤_, min};
 ghost use lib.ListN.{length, getD};
-ghost use Rattle.replay_histories.specs.Words.{intervalIn, lastIn, chosenAt, stateAt, rangesAt};
+ghost use Rattle.replay_histories.specs.Words.{intervalIn, lastIn, chosenAt, stateAt, rangesAt, WordTable, EndsInTables};
+use crate::tables::BYTES;
+use crate::tables::CELLS;
+use crate::tables::NUMBERS;
+use crate::tables::PICTURE;
+use crate::tables::VERDICTS;
+use crate::tables::WORDS;
 use crate::tables::put;
 use coordinate::Coordinate;
 use decide::Chosen;
@@ -97,12 +103,37 @@ pub(crate) fn steps_at(w: &[u64]) -> u32
 }
 
 // The length in a word, cut to what a table has room for.
-pub(crate) fn length_at(w: &[u64], at: usize, most: usize) -> usize
+fn length_at(w: &[u64], at: usize, most: usize) -> usize
     requires { ⌜ at < length (now w) ⌝ }
     ensures { λ r. ⌜ r ≡ min (getD (now (w .entry)) at 0) most ⌝ }
 {
     let n = w[at] as usize;
     if n < most { n } else { most }
+}
+
+// Where what a call is lent ends: the ring, the verdicts, the picture and the other ring among the bytes, the cells among the words; and how many tile counts.
+pub(crate) struct Ends {
+    pub ring: usize,
+    pub cells: usize,
+    pub verdicts: usize,
+    pub picture: usize,
+    pub other: usize,
+    pub numbers: usize,
+}
+
+// By the lengths in words 36, 37, 38, 40, 106 and 107.
+pub(crate) fn ends_at(w: &[u64]) -> Ends
+    requires { ⌜ WordTable (now w) ⌝ }
+    ensures { λ r. ⌜ EndsInTables r ⌝ }
+{
+    Ends {
+        ring: length_at(w, 36, VERDICTS),
+        cells: CELLS + length_at(w, 37, NUMBERS - CELLS),
+        verdicts: VERDICTS + length_at(w, 38, PICTURE - VERDICTS),
+        picture: PICTURE + length_at(w, 40, BYTES - PICTURE),
+        other: VERDICTS + length_at(w, 106, 1024),
+        numbers: length_at(w, 107, WORDS - NUMBERS),
+    }
 }
 
 fn put_interval(w: &mut [u64], at: usize, i: Interval)

@@ -4,6 +4,21 @@ ghost use Prim.Native.Nat.{_<_};
 ghost use mathlib.Core.Bool.{true};
 ghost use lib.ListN.{length};
 ghost use Rattle.replay_histories.specs.Counting.{Same};
+ghost use Rattle.replay_histories.specs.Words.{WordTable, NumberTable};
+
+// How many words and bytes there are: specs/Words says the same.
+pub(crate) const WORDS: usize = 2048;
+
+pub(crate) const BYTES: usize = 5120;
+
+// Where the cells and the tile counts begin among the words; the verdicts and the picture among the bytes, the other ring where the verdicts do.
+pub(crate) const CELLS: usize = 128;
+
+pub(crate) const NUMBERS: usize = 1536;
+
+pub(crate) const VERDICTS: usize = 3072;
+
+pub(crate) const PICTURE: usize = 3584;
 
 pub(crate) fn wide(b: u8) -> u64
     ensures { λ r. ⌜ (r ≡ b) × (r < 256) ⌝ }
@@ -42,6 +57,30 @@ pub(crate) fn copy_bytes(from: &[u8], to: &mut [u8])
 {
     for i in 0..from.len() {
         to[i] = from[i];
+    }
+}
+
+fn number(n: u32) -> u64
+    ensures { λ r. ⌜ r ≡ n ⌝ }
+{
+    n as u64
+}
+
+// The tile counts, out of the words.
+pub(crate) fn take_numbers(words: &[u64], table: &mut [u32])
+    requires { ⌜ WordTable (now words) × NumberTable (now table) ⌝ }
+{
+    for i in 0..table.len() {
+        table[i] = (words[NUMBERS + i] % 4294967296) as u32;
+    }
+}
+
+// The tile counts, back into the words.
+pub(crate) fn put_numbers(table: &[u32], got: &mut [u64])
+    requires { ⌜ WordTable (now got) × NumberTable (now table) ⌝ }
+{
+    for i in 0..table.len() {
+        got[NUMBERS + i] = number(table[i]);
     }
 }
 

@@ -2,7 +2,7 @@
 
 use crate::exact::Fraction;
 use crate::relations::{Asked, Relation, HEIGHT, PER_UNIT, WIDTH};
-use smyrilox::{Picture, Reading};
+use smyrilox::{Picture, Reading, Table};
 
 /// Points along a pixel's side, both of its edges among them.
 const FINE: i128 = 4;
@@ -63,4 +63,20 @@ fn note(tried: &mut Tried, picture: &Picture, a: Fraction, c: Fraction) {
             }
         }
     }
+}
+
+/// A square of the thumbnail is white exactly if all pixels of its tile are, and black exactly if all of them are.
+pub fn is_thumbnail_of(table: &Table, picture: &Picture) -> bool {
+    let shades = table.thumbnail();
+    shades.iter().enumerate().all(|(place, shade)| {
+        let (x, y) = (
+            16 * (place % table.columns()),
+            16 * (place / table.columns()),
+        );
+        let (right, bottom) = (picture.width().min(x + 16), picture.height().min(y + 16));
+        let all = |reading| {
+            (y..bottom).all(|row| (x..right).all(|column| picture.reading(column, row) == reading))
+        };
+        (*shade == 255) == all(Reading::False) && (*shade == 0) == all(Reading::True)
+    })
 }

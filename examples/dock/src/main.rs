@@ -1,5 +1,5 @@
 //! Draws the example charts as text: `dock FOLDER` writes a file for each relation there, `dock FOLDER STEPS` what is known after so many steps, and
-//! `dock --check` holds the charts against brute force.
+//! `dock --check` holds the charts against brute force. Beside each chart it writes a thumbnail of it.
 
 mod check;
 mod evaluator;
@@ -7,6 +7,7 @@ mod exact;
 mod interval;
 mod relations;
 mod text;
+mod thumbnail;
 
 use relations::{Relation, RELATIONS};
 use smyrilox::{Chart, Ending, Refusal};
@@ -37,7 +38,7 @@ fn main() {
 
 /// So many steps, or fewer if nothing is left to do: the chart, and the evaluations that it cost.
 fn refine(relation: &Relation, steps: u32) -> Result<(Chart, u64), Refusal> {
-    let mut chart = Chart::new(&relation.setup(), RING)?;
+    let mut chart = Chart::new(&relation.setup(), RING)?.with_table()?;
     let run = chart.refine_watched(
         |block| evaluator::verdict(relation, block),
         steps,
@@ -74,17 +75,25 @@ fn show_progress(relation: &Relation, chart: &Chart, finished: u32, steps: u32) 
 fn draw_all(folder: &Path, budget: u32, suffix: &str) -> Result<(), String> {
     fs::create_dir_all(folder).map_err(|e| format!("{}: {e}", folder.display()))?;
     for relation in &RELATIONS {
-        let text = refine(relation, budget)
-            .and_then(|(chart, evaluations)| text::text(relation, &chart, evaluations))
-            .map_err(|why| format!("{}: {why}", relation.name))?;
+        let refused = |why: Refusal| format!("{}: {why}", relation.name);
+        let (chart, evaluations) = refine(relation, budget).map_err(refused)?;
+        let text = text::text(relation, &chart, evaluations).map_err(refused)?;
         let file = folder.join(format!("{}{suffix}.txt", relation.name));
-        fs::write(&file, &text).map_err(|e| format!("{}: {e}", file.display()))?;
+        write(&file, &text)?;
+        if let Some(table) = chart.table() {
+            let small = folder.join(format!("{}{suffix}-thumbnail.svg", relation.name));
+            write(&small, &thumbnail::svg(relation.title, table))?;
+        }
         println!("{}: {}", file.display(), relation.title);
         for line in text.lines().skip(3).take(2) {
             println!("  {line}");
         }
     }
     Ok(())
+}
+
+fn write(file: &Path, text: &str) -> Result<(), String> {
+    fs::write(file, text).map_err(|e| format!("{}: {e}", file.display()))
 }
 
 fn check_all() -> Result<(), String> {
@@ -99,6 +108,13 @@ fn check_all() -> Result<(), String> {
             relation.name, tried.solutions, tried.in_white
         );
         wrong += tried.in_white + (tried.solutions == 0) as u64;
+        let small = chart.table().expect("charts are refined with a table");
+        if !check::is_thumbnail_of(small, &picture) {
+            return Err(format!(
+                "{}: the thumbnail says other than the picture",
+                relation.name
+            ));
+        }
     }
     match wrong {
         0 => Ok(()),

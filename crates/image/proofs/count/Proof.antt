@@ -11,8 +11,8 @@ use Rattle.image.proofs.count.Tie as tie
 is-ready-requires : tie.Need-is-ready-requires
 is-ready-requires c κs = search needs
 
-count-rows-requires : tie.Need-count-rows-requires
-count-rows-requires c κs =
+count-rectangle-requires : tie.Need-count-rectangle-requires
+count-rectangle-requires c κs =
     let a = c .before .before .before .args in
     ready-rows (a .width) (a .height) (a .r) (length (a .cells .now)) (sym (c .before .is-ready .ensures) ∙ c .if1 .taken)
 
@@ -20,7 +20,7 @@ returns : tie.Need-returns
 returns c =
     let b = c .before in
     let a = b .before .before .before .args in
-    ap A.Of (c .count-rows .ensures)
+    ap A.Of (c .count-rectangle .ensures)
     ∙ sym (tally-answered (a .width) (a .height) (a .r) (a .taken) (a .cells .now) (sym (b .before .is-ready .ensures) ∙ b .if1 .taken))
 
 returns-2 : tie.Need-returns-2
@@ -29,4 +29,4 @@ returns-2 c =
     sym (tally-outside (a .width) (a .height) (a .r) (a .taken) (a .cells .now) (sym (c .before .is-ready .ensures) ∙ c .if1 .left))
 
 pub count-spec : {M : Type 1} → statement M
-count-spec = tie.close (tie.spec is-ready-requires count-rows-requires returns returns-2)
+count-spec = tie.close (tie.spec is-ready-requires count-rectangle-requires returns returns-2)

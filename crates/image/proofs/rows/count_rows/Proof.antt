@@ -43,20 +43,20 @@ mul-end c = omega (arith, room c)
 add-end : tie.Need-add-end Inv-loop μ-loop
 add-end c = omega (arith, room c)
 
-mul-count-row : tie.Need-mul-count-row Inv-loop μ-loop
-mul-count-row c = omega (arith, room c, c .before .before .before .pre .across)
+mul-count-cells : tie.Need-mul-count-cells Inv-loop μ-loop
+mul-count-cells c = omega (arith, room c, c .before .before .before .pre .across)
 
-sub-count-row : tie.Need-sub-count-row Inv-loop μ-loop
-sub-count-row c = omega (arith, room c, c .before .before .before .pre .across)
+sub-count-cells : tie.Need-sub-count-cells Inv-loop μ-loop
+sub-count-cells c = omega (arith, room c, c .before .before .before .pre .across)
 
-part-count-row-start : tie.Need-part-count-row-start Inv-loop μ-loop
-part-count-row-start c = omega (arith, c .before .before .before .pre .across)
+part-count-cells-start : tie.Need-part-count-cells-start Inv-loop μ-loop
+part-count-cells-start c = omega (arith, c .before .before .before .pre .across)
 
-part-count-row-end : tie.Need-part-count-row-end Inv-loop μ-loop
-part-count-row-end c = room c
+part-count-cells-end : tie.Need-part-count-cells-end Inv-loop μ-loop
+part-count-cells-end c = room c
 
-count-row-requires : tie.Need-count-row-requires Inv-loop μ-loop
-count-row-requires c κs = search needs
+count-cells-requires : tie.Need-count-cells-requires Inv-loop μ-loop
+count-cells-requires c κs = search needs
 
 sum-requires : tie.Need-sum-requires Inv-loop μ-loop
 sum-requires c κs =
@@ -71,7 +71,7 @@ sum-requires c κs =
     let all = heldFrom (a .width) (r .left) (r .right) (r .top) (r .bottom) n in (
       part-small (l .tally) (tallied (a .taken) (heldFrom (a .width) (r .left) (r .right) (l .row) (r .bottom) n)) (tallied (a .taken) all) (l .inv .1)
           (tally-small (a .taken) all (omega (arith, held-length (a .width) (r .left) (r .right) (r .top) (r .bottom) n, i .before .before .before .good .0))),
-      rw (c .count-row .ensures) (tally-small (a .taken) (meanings part)
+      rw (c .count-cells .ensures) (tally-small (a .taken) (meanings part)
           (omega (arith, length-map part meaningOf, length-take (end - start) (drop start n), length-drop start n, i .before .before .before .good .0))),
     )
 
@@ -92,11 +92,11 @@ loop-again c =
     let start = l .row * a .width + r .left in
     let end = l .row * a .width + r .right in (
       omega (arith, i .loop-test .taken),
-      tally-pass (a .taken) (l .tally) (c .before .count-row .result) (c .sum .result) (tallied (a .taken) (heldFrom (a .width) (r .left) (r .right) (r .top) (r .bottom) n))
+      tally-pass (a .taken) (l .tally) (c .before .count-cells .result) (c .sum .result) (tallied (a .taken) (heldFrom (a .width) (r .left) (r .right) (r .top) (r .bottom) n))
           (meanings (take (end - start) (drop start n))) (heldFrom (a .width) (r .left) (r .right) (l .row + 1) (r .bottom) n)
           (ap (λ (m : List Cell). tallySum (l .tally) (tallied (a .taken) m))
           (sym (held-pass (a .width) (r .left) (r .right) (l .row) (r .bottom) start end n (s .pre .across) (s .pre .right) (i .loop-test .taken) refl refl (room i))) ∙ l .inv .1)
-          (c .before .count-row .ensures)
+          (c .before .count-cells .ensures)
           (c .sum .ensures),
     )
 
@@ -120,11 +120,11 @@ count-rows-spec =
     add-start
     mul-end
     add-end
-    mul-count-row
-    sub-count-row
-    part-count-row-start
-    part-count-row-end
-    count-row-requires
+    mul-count-cells
+    sub-count-cells
+    part-count-cells-start
+    part-count-cells-end
+    count-cells-requires
     sum-requires
     add-row
     loop-less

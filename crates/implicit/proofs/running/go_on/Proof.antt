@@ -1,7 +1,8 @@
 -- `running::go_on` meets its contract. Assumes nothing.
 use native.Mathlib.Omega.{arith}
-use Rattle.implicit.proofs.RunLaws.{once-empty, once-spent, once-step}
+use Rattle.implicit.proofs.RunLoop.{once-empty, once-spent, once-step}
 use borrow.Author.Needs.{needs}
+use Rattle.implicit.specs.RunComputed.{nextStep}
 use Rattle.implicit.proofs.running.go_on.Statement.{statement}
 use Rattle.implicit.proofs.running.go_on.Tie as tie
 
@@ -23,7 +24,7 @@ returns c =
     let o = n .before in
     let b = o .before .before .before .before in
     let a = b .args in
-    once-empty (a .budget) (a .p) (a .ring .now) (a .cells .now) (a .tape .now) (o .is-empty .result) (o .is-empty .ensures)
+    once-empty (a .budget) (a .p) (a .ring .now) (a .cells .now) (nextStep (a .p) (a .ring .now) (a .cells .now) (a .tape .now)) (o .is-empty .result) (o .is-empty .ensures)
     (c .halt .result) (c .before .empty-ending .result) (n .if1 .taken) (c .before .empty-ending .ensures) (c .halt .ensures) (b .pre .2)
 
 halt-requires-2 : tie.Need-halt-requires-2
@@ -35,7 +36,7 @@ returns-2 c =
     let o = n .before in
     let b = o .before .before .before .before in
     let a = b .args in
-    once-spent (a .budget) (a .p) (a .ring .now) (a .cells .now) (a .tape .now) (o .is-empty .result) (o .is-empty .ensures)
+    once-spent (a .budget) (a .p) (a .ring .now) (a .cells .now) (nextStep (a .p) (a .ring .now) (a .cells .now) (a .tape .now)) (o .is-empty .result) (o .is-empty .ensures)
     (c .halt2 .result) (n .if1 .left) (c .before .if2 .taken) (c .halt2 .ensures) (b .pre .2)
 
 go-step-requires : tie.Need-go-step-requires
@@ -57,7 +58,7 @@ returns-3 c =
     let n = k .before .before in
     let o = n .before in
     let a = o .before .before .before .before .args in
-    once-step (a .budget) (a .p) (a .ring .now) (a .cells .now) (a .tape .now) (o .is-empty .result) (o .is-empty .ensures)
+    once-step (a .budget) (a .p) (a .ring .now) (a .cells .now) (nextStep (a .p) (a .ring .now) (a .cells .now) (a .tape .now)) (o .is-empty .result) (o .is-empty .ensures)
     (g .go-step .result) (g .go-step .last .1 .0) (g .go-step .last .1 .1 .0) (n .if1 .left) (k .if2 .left)
     (g .go-step .ensures .0) (g .go-step .ensures .1) (g .go-step .ensures .2)
 

@@ -1,6 +1,6 @@
 -- `running::go_step` meets its contract. Assumes nothing.
 use native.Mathlib.Omega.{arith}
-use Rattle.implicit.proofs.RunLaws.{step-rest, step-stop, step-on, step-sums}
+use Rattle.implicit.proofs.RunLaws.{next-itself, step-rest, step-stop, step-on, step-sums}
 use lib.ListN.{length-drop}
 use lib.Ieee.{binary64, fits}
 use denote.Floats.{passes}
@@ -63,7 +63,8 @@ add-step-requires c κs =
     let b = entry k in
     let a = b .args in
     let few =
-    step-sums (a .p) (a .ring .now) (a .cells .now) (a .tape .now) (s .result) (s .last .1 .0) (s .last .1 .1 .0) (ends k) _ _ _
+    step-sums (a .p) (a .ring .now) (a .cells .now) (a .tape .now) _ (next-itself (a .p) (a .ring .now) (a .cells .now) (a .tape .now))
+    (s .result) (s .last .1 .0) (s .last .1 .1 .0) (ends k) _ _ _
     (c .before .state .given .1) in (
       b .pre .1,
       omega (arith, b .pre .1, b .pre .2, few .1),
@@ -81,7 +82,8 @@ returns c =
     let k = c .before .before .before .before .before .before .before .before in
     let s = k .step-on-tape in
     let a = entry k .args in
-    step-stop (a .p) (a .ring .now) (a .cells .now) (a .tape .now) (s .result) (s .last .1 .0) (s .last .1 .1 .0) (ends k) _ _
+    step-stop (a .p) (a .ring .now) (a .cells .now) (a .tape .now) _ (next-itself (a .p) (a .ring .now) (a .cells .now) (a .tape .now))
+    (s .result) (s .last .1 .0) (s .last .1 .1 .0) (ends k) _ _
     (c .halt .result) (c .before .before .why .given .1) (c .halt .ensures) (entry k .pre .3)
 
 same-length-3 : tie.Need-same-length-3
@@ -95,7 +97,8 @@ returns-2 c =
     let k = c .before .before .before .before .before .before .before .before in
     let s = k .step-on-tape in
     let a = entry k .args in
-    step-on (a .p) (a .ring .now) (a .cells .now) (a .tape .now) (s .result) (s .last .1 .0) (s .last .1 .1 .0) (ends k) _ _ _
+    step-on (a .p) (a .ring .now) (a .cells .now) (a .tape .now) _ (next-itself (a .p) (a .ring .now) (a .cells .now) (a .tape .now))
+    (s .result) (s .last .1 .0) (s .last .1 .1 .0) (ends k) _ _ _
     (c .add-step .result) (c .before .before .state .given .1) (c .add-step .ensures) (held (entry k))
 
 pub go-step-spec : {M : Type 1} → statement M

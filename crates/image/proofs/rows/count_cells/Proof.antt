@@ -1,4 +1,4 @@
--- `count_row` meets its contract. Assumes nothing.
+-- `count_cells` meets its contract. Assumes nothing.
 use mathlib.Core.Path.{_≡_, refl, sym, ap, _∙_}
 use mathlib.Core.List.{List, [], _∷_}
 use Prim.Native.Nat.{_+_, _-_, _≤_}
@@ -8,8 +8,8 @@ use lib.ListN.{length, getD, drop, drop-of-length-le, length-map}
 use Rattle.image.specs.Cell.{Cell, meaningOf, meanings, tallied}
 use Rattle.image.specs.RowsComputed.{tallySum}
 use Rattle.image.proofs.CountLaws.{drop-meanings, tally-small, tally-start, tally-none, tally-pass, part-small}
-use Rattle.image.proofs.rows.count_row.Statement.{statement}
-use Rattle.image.proofs.rows.count_row.Tie as tie
+use Rattle.image.proofs.rows.count_cells.Statement.{statement}
+use Rattle.image.proofs.rows.count_cells.Tie as tie
 
 abbrev Inv-loop : tie.InvT-loop
 Inv-loop row taken tally₀ i₀ i-end tally i =
@@ -54,7 +54,8 @@ loop-again c =
     let n = a .row .now in (
       l .inv .0,
       omega arith,
-      tally-pass (a .taken) (l .tally) (c .before .count-cell .result) (c .sum .result) (tallied (a .taken) (meanings n)) (meaningOf (getD n (l .i) 0) ∷ []) (meanings (drop (l .i + 1) n))
+      tally-pass (a .taken) (l .tally) (c .before .count-cell .result) (c .sum .result) (tallied (a .taken) (meanings n))
+          (meaningOf (getD n (l .i) 0) ∷ []) (meanings (drop (l .i + 1) n))
           (ap (λ (m : List Cell). tallySum (l .tally) (tallied (a .taken) m)) (sym (drop-meanings n (l .i) (omega arith))) ∙ l .inv .2)
           (c .before .count-cell .ensures)
           (c .sum .ensures),
@@ -64,10 +65,11 @@ returns : tie.Need-returns Inv-loop μ-loop
 returns c =
     let l = c .before .loop in
     let a = c .before .before .before .args in
-    sym (tally-none (a .taken) (l .tally) (meanings (drop (l .i) (a .row .now))) (ap meanings (drop-of-length-le (a .row .now) {i = l .i} (omega arith)))) ∙ l .inv .2
+    sym (tally-none (a .taken) (l .tally) (meanings (drop (l .i) (a .row .now))) (ap meanings (drop-of-length-le (a .row .now) {i = l .i} (omega arith))))
+    ∙ l .inv .2
 
-pub count-row-spec : {M : Type 1} → statement M
-count-row-spec =
+pub count-cells-spec : {M : Type 1} → statement M
+count-cells-spec =
     tie.close
     (tie.spec
     Inv-loop

@@ -1,0 +1,81 @@
+-- `put_numbers` meets its contract. Assumes nothing.
+use native.Mathlib.Omega.{arith}
+use borrow.Author.Needs.{needs}
+use lib.ListN.{length-set}
+use Rattle.tiles.specs.TilesComputed.{numbersPut}
+use Rattle.tiles.proofs.counting.put_numbers.Statement.{statement}
+use Rattle.tiles.proofs.counting.put_numbers.Tie as tie
+
+cast-table : tie.Need-cast-table
+cast-table c = search needs
+
+mul-table : tie.Need-mul-table
+mul-table c = search needs
+
+slice-write-table : tie.Need-slice-write-table
+slice-write-table c = search needs
+
+cast-table-2 : tie.Need-cast-table-2
+cast-table-2 c = search needs
+
+add-table : tie.Need-add-table
+add-table c = search needs
+
+mul-table-2 : tie.Need-mul-table-2
+mul-table-2 c = search needs
+
+slice-write-table-2 : tie.Need-slice-write-table-2
+slice-write-table-2 c = simp length-set (omega arith)
+
+cast-table-3 : tie.Need-cast-table-3
+cast-table-3 c = search needs
+
+add-table-2 : tie.Need-add-table-2
+add-table-2 c = search needs
+
+mul-table-3 : tie.Need-mul-table-3
+mul-table-3 c = search needs
+
+slice-write-table-3 : tie.Need-slice-write-table-3
+slice-write-table-3 c = simp length-set (omega arith)
+
+cast-table-4 : tie.Need-cast-table-4
+cast-table-4 c = search needs
+
+add-table-3 : tie.Need-add-table-3
+add-table-3 c = search needs
+
+mul-table-4 : tie.Need-mul-table-4
+mul-table-4 c = search needs
+
+slice-write-table-4 : tie.Need-slice-write-table-4
+slice-write-table-4 c = simp length-set (omega arith)
+
+same-length : tie.Need-same-length
+same-length c = search needs
+
+returns : tie.Need-returns
+unfolding numbersPut
+returns c = search needs
+
+pub put-numbers-spec : {M : Type 1} → statement M
+put-numbers-spec =
+    tie.close
+    (tie.spec
+    cast-table
+    mul-table
+    slice-write-table
+    cast-table-2
+    add-table
+    mul-table-2
+    slice-write-table-2
+    cast-table-3
+    add-table-2
+    mul-table-3
+    slice-write-table-3
+    cast-table-4
+    add-table-3
+    mul-table-4
+    slice-write-table-4
+    same-length
+    returns)
