@@ -11,6 +11,7 @@
  *     picture, counts            what is known so far
  *     move_queue                 a step that finds no room is refused, and goes on in a longer ring
  *     .._with_table, fill_table  setup, step and run that also keep how many pixels of each tile read what, in a table of the caller's
+ *     explain                    why a pixel reads what it reads: by a setup and its tape, repeated in a spare ring and spare cells
  *     block_box                  where a child's square lies in the caller's own units: what an evaluator judges
  *
  * What a caller owes. No function can test these, and a call without the first five has no meaning at all:
@@ -26,7 +27,8 @@
  * Nothing else is owed: all other numbers, records and bytes may be handed in, and what is wrong with them is refused by number.
  *
  * Refusals. Every answer has a refusal: 0, or one of the numbers below. A refused call has written nothing, and a step, a run or a move
- * that is refused hands back the record that it was given. Where several apply, the one that its function lists first is given.
+ * that is refused hands back the record that it was given. Where several apply, the one that its function lists first is given. There is
+ * one exception: where a step refuses while smyrilox_explain repeats the steps, the spare ring and cells hold what the steps before it left.
  *
  * Zero is not a safe filler. A zeroed verdict says no, a zeroed picture is all white, and zeroed cells read white once a block was taken:
  * fill verdicts with SMYRILOX_UNDECIDED and pictures with SMYRILOX_UNCERTAIN before use, or look at every answer's refusal.
@@ -60,7 +62,8 @@ enum {
     SMYRILOX_EMPTY = 13,     /* nothing is queued: no step, and no children to list */
     SMYRILOX_BOUNDS = 15,    /* a bound of the box is not finite, or ends of it cross */
     SMYRILOX_PADDING = 16,   /* the padding leaves no width or no height */
-    SMYRILOX_TABLE = 17      /* too few numbers in the table: four a tile are needed, and spare ones stay as they are */
+    SMYRILOX_TABLE = 17,     /* too few numbers in the table: four a tile are needed, and spare ones stay as they are */
+    SMYRILOX_PIXEL = 18      /* a pixel outside the picture */
 };
 
 /* The bits of a variable set: which of the variables a relation uses. */
@@ -109,6 +112,25 @@ enum {
     SMYRILOX_FALSE = 0,
     SMYRILOX_UNCERTAIN = 1,
     SMYRILOX_TRUE = 2
+};
+
+/* Why a pixel reads what it reads. */
+enum {
+    SMYRILOX_REASON_NONE = 0,     /* it was not explained: look at the refusal */
+    SMYRILOX_REASON_TRUE = 1,     /* it reads True: a child marked it */
+    SMYRILOX_REASON_FALSE = 2,    /* it reads False: no block that covers it is left, and none marked it or gave it up */
+    SMYRILOX_REASON_GIVEN_UP = 3, /* it is uncertain, and given up */
+    SMYRILOX_REASON_WAITING = 4   /* it is uncertain, not given up, and a queued block covers it */
+};
+
+/* What marked a pixel that reads True: the area verdict, or the sample point at this place. */
+enum {
+    SMYRILOX_POINT_NONE = 0,      /* the area verdict; from level 0 up that is every SMYRILOX_YES */
+    SMYRILOX_POINT_SIMPLE_FRACTION = 1,
+    SMYRILOX_POINT_BOTTOM_LEFT = 2,
+    SMYRILOX_POINT_BOTTOM_RIGHT = 3,
+    SMYRILOX_POINT_TOP_LEFT = 4,
+    SMYRILOX_POINT_TOP_RIGHT = 5
 };
 
 /* A tile's side in pixels, how many numbers of a table it has, and the place of each among them. */
@@ -231,6 +253,33 @@ typedef struct {
     size_t tape;
     smyrilox_state state;
 } smyrilox_ran;
+
+/* An explanation. Steps count from 1 from the setup on, and a child's place counts from 1 over all children of its step, skipped ones too.
+ *     SMYRILOX_REASON_TRUE      `child` of `step` marked the pixel last, by `point`
+ *     SMYRILOX_REASON_FALSE     `step` took the last block that covers it, and `child` is the first covering one that was answered false;
+ *                               every covering child of that step was
+ *     SMYRILOX_REASON_GIVEN_UP  `step` was the last to give it up, and `child` is the first one there that found no direction to be cut in
+ *     SMYRILOX_REASON_WAITING   `block` is the last queued block that covers it; blocks are numbered from 0 as they are queued, and `number`
+ *                               is its number, `before` how many stand before it, and `direction` the place, from 0, of the direction in
+ *                               which it is cut next: x and y together where either is used, then the used parameters in order
+ * What does not apply is 0; a block that does not is (0, level 0) with whole lines. Behind the reason stands what a run of the same steps
+ * answers: ending, steps, evaluations, tape bytes, and the record, which goes with the spare ring and cells. */
+typedef struct {
+    uint64_t refusal;
+    uint64_t reason;
+    uint64_t step;
+    uint64_t child;
+    uint64_t point;
+    uint64_t number;
+    uint64_t before;
+    smyrilox_child block;
+    uint64_t direction;
+    uint64_t ending;
+    uint64_t steps;
+    uint64_t evaluations;
+    size_t tape;
+    smyrilox_state state;
+} smyrilox_explained;
 
 /* Pixels by reading; given-up cells, which are uncertain too; blocks waiting; settled pixels (True or False) in thousandths of all, rounded down:
  * share is 1000 exactly if no pixel is uncertain. */
@@ -411,6 +460,21 @@ smyrilox_ran smyrilox_run_with_table(smyrilox_state state, uint8_t *ring, size_t
  * Answers the refusal, or 0: 8 for the record, 2, 17, 8 for a cell. Writes the table's first four numbers a tile. */
 uint64_t smyrilox_fill_table(smyrilox_state state, const uint64_t *cells, size_t cells_len, uint32_t *table, size_t table_len);
 
+/* THE EXPLAINER */
+
+/* Why the pixel in this column, and in this row from the top, reads what it reads after `steps` steps of the picture that was begun with
+ * this `chosen` and these `ranges` and stepped with the verdicts of `tape`, one byte for each child of each step. The steps are repeated
+ * in a ring and cells that are lent for it, not in the picture's own. If the queue empties sooner, it answers for that end: `steps` of the
+ * answer says for which.
+ * Refused by 1, 2, 3, 6 as a setup is, then by 18; then nothing is written, the ending is 0 and the record one that every call refuses by 8.
+ * A step that refuses on the way gives its number: 4 where the tape ends early, 5, 7, or 6 where the spare ring has no room. A spare ring
+ * that is shorter than the picture's may come to 6 where the picture did not; one as long as the longest that the picture had does not.
+ * Then the ending is SMYRILOX_STOP, and the spare ring, the cells, the record and the sums are those of the steps before it: the one
+ * refused call that has written.
+ * Writes what the setup and the finished steps write, so that the spare ring and cells then are the picture as it was after those steps. */
+smyrilox_explained smyrilox_explain(smyrilox_chosen chosen, smyrilox_ranges ranges, uint8_t *ring, size_t ring_len, uint64_t *cells,
+                                    size_t cells_len, const uint8_t *tape, size_t tape_len, uint32_t steps, uint32_t column, uint32_t row);
+
 /* THE LEAVES: none writes anything. */
 
 /* The midpoint as IEEE 1788 has it, rounded once; a zero is +0. Refused by 3; then the value is 0. */
@@ -511,6 +575,11 @@ SMYRILOX_SIZE(stepped, 240); SMYRILOX_PLACE(stepped, refusal, 0); SMYRILOX_PLACE
     SMYRILOX_PLACE(stepped, tape, 16); SMYRILOX_PLACE(stepped, state, 24);
 SMYRILOX_SIZE(ran, 264); SMYRILOX_PLACE(ran, refusal, 0); SMYRILOX_PLACE(ran, ending, 8); SMYRILOX_PLACE(ran, stop, 16);
     SMYRILOX_PLACE(ran, steps, 24); SMYRILOX_PLACE(ran, evaluations, 32); SMYRILOX_PLACE(ran, tape, 40); SMYRILOX_PLACE(ran, state, 48);
+SMYRILOX_SIZE(explained, 408); SMYRILOX_PLACE(explained, refusal, 0); SMYRILOX_PLACE(explained, reason, 8);
+    SMYRILOX_PLACE(explained, step, 16); SMYRILOX_PLACE(explained, child, 24); SMYRILOX_PLACE(explained, point, 32);
+    SMYRILOX_PLACE(explained, number, 40); SMYRILOX_PLACE(explained, before, 48); SMYRILOX_PLACE(explained, block, 56);
+    SMYRILOX_PLACE(explained, direction, 152); SMYRILOX_PLACE(explained, ending, 160); SMYRILOX_PLACE(explained, steps, 168);
+    SMYRILOX_PLACE(explained, evaluations, 176); SMYRILOX_PLACE(explained, tape, 184); SMYRILOX_PLACE(explained, state, 192);
 SMYRILOX_SIZE(tally, 48); SMYRILOX_PLACE(tally, trues, 0); SMYRILOX_PLACE(tally, falses, 8); SMYRILOX_PLACE(tally, uncertain, 16);
     SMYRILOX_PLACE(tally, givenup, 24); SMYRILOX_PLACE(tally, queued, 32); SMYRILOX_PLACE(tally, share, 40);
 SMYRILOX_SIZE(counted, 56); SMYRILOX_PLACE(counted, refusal, 0); SMYRILOX_PLACE(counted, counts, 8);

@@ -1,7 +1,7 @@
 //! One engine on one task, for callgrind.
 
 use crate::{
-    dock,
+    dock, explains,
     play::*,
     port::Port,
     tables,
@@ -25,7 +25,8 @@ fn tape(name: &str) -> Option<Work> {
 }
 
 /// Plays a task on one engine, and tells its steps or cells. With `steps` the port goes step by step, with `table` it keeps a
-/// table of tile counts, and with `recount` such a table is filled once at the end.
+/// table of tile counts, and with `recount` such a table is filled once at the end; with `explain` a pixel is explained, and `plain` is
+/// the setup and the run of that.
 pub fn count(name: &str, engine: &str, part: &str) {
     let size = match (tape(name), engine, part) {
         (Some(work), "port", "run") => {
@@ -33,6 +34,7 @@ pub fn count(name: &str, engine: &str, part: &str) {
             work.steps
         }
         (Some(work), "port", "table" | "recount") => tables::count(&work, part),
+        (Some(work), "port", "explain" | "plain") => explains::count(&work, part),
         (Some(work), "port", _) => {
             counted_port_steps(&mut Port::made(&work.setup, work.ring), &work.tape, work.steps);
             work.steps

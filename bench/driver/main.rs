@@ -4,6 +4,7 @@ mod boxes;
 mod clock;
 mod count;
 mod dock;
+mod explains;
 mod growth;
 mod play;
 mod port;
@@ -20,8 +21,9 @@ mod year;
 const USAGE: &str = "driver time ROUNDS
 driver customer ROUNDS
 driver year steps|run|rust HOURS
-driver count TASK port|rust run|steps|table|recount|other
+driver count TASK port|rust run|steps|table|recount|explain|plain|other
 driver table ROUNDS
+driver explain ROUNDS
 driver boxes ROUNDS
 driver count-boxes quick|precise LEVEL
 driver growth
@@ -38,6 +40,7 @@ fn main() {
         ["year", engine, hours] => year::year(engine, number(hours) as u64),
         ["count", name, engine, part] => count::count(name, engine, part),
         ["table", rounds] => tables::time(number(rounds)),
+        ["explain", rounds] => explains::time(number(rounds)),
         ["boxes", rounds] => boxes::time(number(rounds)),
         ["count-boxes", kind, level] => boxes::count(kind, level.parse().expect("a level")),
         ["growth"] => growth::growth(),

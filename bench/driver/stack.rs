@@ -2,7 +2,7 @@
 //! and every refusal that the entry can give.
 
 use crate::{
-    boxes,
+    boxes, explains,
     port::{abi, asked, calls::*, Port},
     tables,
     watch::{taken, watched},
@@ -23,7 +23,7 @@ struct Row {
 pub struct Table(Vec<Row>);
 
 /// Each entry with the numbers that it can give. A run gives its own, and stops by those of its steps.
-const ENTRIES: [(&str, &[u64]); 26] = [
+const ENTRIES: [(&str, &[u64]); 27] = [
     ("run", &[2, 8]),
     ("run, by the number that stops it", &[4, 5, 6, 7, 8]),
     ("step", &[2, 4, 5, 6, 7, 8, 13]),
@@ -34,6 +34,7 @@ const ENTRIES: [(&str, &[u64]); 26] = [
     ("setup_with_table", &[1, 2, 3, 6, 17]),
     ("fill_table", &[2, 8, 17]),
     ("tile_count", &[1]),
+    ("explain", &[1, 2, 3, 4, 5, 6, 18]),
     ("children", &[8, 13]),
     ("least_ring", &[1, 3]),
     ("picture", &[2, 8, 12]),
@@ -269,6 +270,7 @@ fn setup_of(table: &mut Table, case: &str, setup: &Setup, ring: usize) {
             answer.refusal
         });
         tables::stack_setup(table, case, setup, ring, cells);
+        explains::stack_explain(table, case, setup, ring, cells);
     }
 }
 

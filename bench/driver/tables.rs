@@ -3,11 +3,10 @@
 
 use crate::{
     clock::{milliseconds, timed, Measured},
-    dock,
     play::counted_port_run,
     port::{abi, asked, calls::*, Port},
     stack::Table,
-    time::works,
+    time::each_work,
     watch::watched,
     work::Work,
 };
@@ -123,8 +122,7 @@ fn time_work(work: &Work, charts: usize, rounds: usize) {
 pub fn time(rounds: usize) {
     println!("| a run | size | with the table, least | without, least | ratio | ratio by rounds: median (least to most) | one recount of all pixels | so many recounts take as long as the table |");
     println!("|---|---|---|---|---|---|---|---|");
-    works().iter().for_each(|work| time_work(work, 1, rounds));
-    dock::KINDS.into_iter().for_each(|kind| time_work(&dock::hour(kind, 8), 50, rounds));
+    each_work(|work, charts| time_work(work, charts, rounds));
 }
 
 /// For callgrind: a run with its table, or the one recount at its end. Answers the steps, or the cells.

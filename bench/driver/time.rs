@@ -79,13 +79,22 @@ fn time_picture(side: u32, rounds: usize) -> Measured {
     )
 }
 
-pub fn works() -> Vec<Work> {
+/// How many of the customer's charts are timed together.
+const CHARTS: usize = 50;
+
+fn works() -> Vec<Work> {
     vec![
         work::to_the_pixels(1024),
         work::third_answered(1024),
         work::to_the_floor(64),
         work::with_parameters(64, 200_000),
     ]
+}
+
+/// Every task, with how many of its charts are timed together.
+pub fn each_work(time: impl Fn(&Work, usize)) {
+    works().iter().for_each(|work| time(work, 1));
+    dock::KINDS.into_iter().for_each(|kind| time(&dock::hour(kind, 8), CHARTS));
 }
 
 fn head() {
@@ -109,7 +118,6 @@ pub fn time(rounds: usize) {
 
 /// The customer's charts, a run and step by step.
 pub fn time_customer(rounds: usize) {
-    const CHARTS: usize = 50;
     head();
     for kind in dock::KINDS {
         let work = dock::hour(kind, 8);

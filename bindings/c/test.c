@@ -1,27 +1,9 @@
 /* The library called from C: document 01's values, refusals, memory that a refused call leaves alone, and records in which every field
  * differs from its neighbours. All expected numbers were worked out by hand from document 01 and are written as numbers, so that a
  * constant or a field of the header that has moved is noticed. */
-#include "smyrilox.h"
-#include <stdio.h>
+#define SUBJECT ""
+#include "check.h"
 #include <string.h>
-
-static int failures = 0;
-
-static void check(bool right, const char *what) {
-    if (!right) {
-        printf("c: not so: %s\n", what);
-        failures += 1;
-    }
-}
-
-#define INFINITE (1.0 / 0.0)
-#define WHOLE {-INFINITE, INFINITE}
-
-static const smyrilox_ranges whole = {WHOLE, WHOLE, WHOLE, WHOLE};
-
-static smyrilox_chosen chosen(uint32_t width, uint32_t height, uint8_t set) {
-    return (smyrilox_chosen){.width = width, .height = height, .set = set};
-}
 
 static bool is(smyrilox_interval x, double lower, double upper) {
     return x.lower == lower && x.upper == upper;

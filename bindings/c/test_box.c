@@ -1,19 +1,8 @@
 /* Boxes called from C: values worked out by hand from document 02's rule for bounds, a plot in which every field differs from its
  * neighbours, and every refusal, in its order and with the whole line in all six places. */
-#include "smyrilox.h"
-#include <stdio.h>
+#define SUBJECT "boxes: "
+#include "check.h"
 #include <string.h>
-
-static int failures = 0;
-
-static void check(bool right, const char *what) {
-    if (!right) {
-        printf("c: boxes: not so: %s\n", what);
-        failures += 1;
-    }
-}
-
-#define INFINITE (1.0 / 0.0)
 
 /* By their bits: a zero's sign counts. */
 static bool is(smyrilox_interval x, double lower, double upper) {

@@ -1,27 +1,10 @@
 /* The table of tile counts called from C: document 02's values, worked out by hand; every refusal in its order, with no number changed; and
  * tables held against a recount of the picture, step by step, on charts of many sizes. */
-#include "smyrilox.h"
-#include <stdio.h>
+#define SUBJECT "tables: "
+#include "check.h"
 #include <string.h>
 
-static int failures = 0;
-
-static void check(bool right, const char *what) {
-    if (!right) {
-        printf("c: tables: not so: %s\n", what);
-        failures += 1;
-    }
-}
-
-#define INFINITE (1.0 / 0.0)
-#define WHOLE {-INFINITE, INFINITE}
-
-static const smyrilox_ranges whole = {WHOLE, WHOLE, WHOLE, WHOLE};
 static const uint64_t GIVEN_UP = ((uint64_t)1 << 32) + 1, NO_CELL = (uint64_t)1 << 33;
-
-static smyrilox_chosen chosen(uint32_t width, uint32_t height, uint8_t set) {
-    return (smyrilox_chosen){.width = width, .height = height, .set = set};
-}
 
 /* A chart with its table, and room for the largest below. */
 typedef struct {

@@ -23,6 +23,13 @@ LAYOUT = {
     "Listed": (400, {"refusal": 0, "count": 8, "at": 16}),
     "Stepped": (240, {"refusal": 0, "evaluations": 8, "tape": 16, "state": 24}),
     "Ran": (264, {"refusal": 0, "ending": 8, "stop": 16, "steps": 24, "evaluations": 32, "tape": 40, "state": 48}),
+    "Explained": (
+        408,
+        {
+            **{"refusal": 0, "reason": 8, "step": 16, "child": 24, "point": 32, "number": 40, "before": 48, "block": 56},
+            **{"direction": 152, "ending": 160, "steps": 168, "evaluations": 176, "tape": 184, "state": 192},
+        },
+    ),
     "Tally": (48, {"trues": 0, "falses": 8, "uncertain": 16, "givenup": 24, "queued": 32, "share": 40}),
     "Counted": (56, {"refusal": 0, "counts": 8}),
     "Number": (16, {"refusal": 0, "value": 8}),

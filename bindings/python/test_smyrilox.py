@@ -109,10 +109,11 @@ class Refusals(Case):
         self.assertEqual(chart.run(b"\0\0\0\xd0", 9).why, "refused 5: child 3 (the first is 0), on level -1, cannot have the verdict 0xd0")
 
     def test_numbers_have_their_words(self):
-        self.assertEqual(sorted(smyrilox.WORDS), list(range(1, 18)))
+        self.assertEqual(sorted(smyrilox.WORDS), list(range(1, 19)))
         self.assertEqual(str(Refused(13)), "refused 13: the queue is empty")
         self.assertEqual(str(Refused(16)), "refused 16: the padding leaves no width or no height")
         self.assertEqual(str(Refused(17)), "refused 17: the table has fewer than four numbers a tile")
+        self.assertEqual(str(Refused(18)), "refused 18: the pixel lies outside the picture")
         self.assertEqual(str(Refused(23)), "refused 23: this module has no words for it")
 
 

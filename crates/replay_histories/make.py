@@ -1,12 +1,13 @@
 #!/usr/bin/env python3
 """make.py STORED VECTORS TRACES..: writes stdin and stdout, the list that the program `replay_histories` plays and what it must print.
 
-The answers are those of model.py, documents 01 and 02 once more on Python's own numbers, and of counted.py, which recounts tiles pixel by pixel; tables.py has
-the list's format; cases.py, damage.py, rings.py, rooms.py, moves.py, tiles.py and tilecounts.py make cases up. The files named on the command line were
-recorded elsewhere: vectors.txt and traces.tsv; original.tsv, which compare/'s driver wrote (`driver record 20261115 40 8`) while it played the original
-(document 02 rounds shares down: they were worked out again, each from its row's own counts); and the stored charts with n_theta, which the library once began.
-tiles.py reads tiles.tsv and orders.tsv, which were recorded elsewhere too. The models are held against every line of them that is played, so that what is
-played is what they have.
+The answers are those of model.py, documents 01 and 02 once more on Python's own numbers, of counted.py, which recounts tiles pixel by pixel, and of
+logged.py, which reads a pixel's reason off a log of events; tables.py has the list's format; cases.py, damage.py, rings.py, rooms.py, moves.py, tiles.py,
+tilecounts.py, explained.py and pixels.py make cases up. The files named on the command line were recorded elsewhere: vectors.txt and traces.tsv;
+original.tsv, which compare/'s driver wrote (`driver record 20261115 40 8`) while it played the original (document 02 rounds shares down: they were worked
+out again, each from its row's own counts); and the stored charts with n_theta, which the library once began. tiles.py reads tiles.tsv and orders.tsv,
+explained.py explain.tsv, which were recorded elsewhere too. The models are held against every line of them that is played, so that what is played is what
+they have.
 
     python3 make.py ../../bindings/stored/charts.txt vectors.txt traces.tsv original.tsv
 """
@@ -17,8 +18,10 @@ import sys
 sys.path.append(os.path.join(os.path.dirname(os.path.abspath(__file__)), ".."))
 import cases
 import damage
+import explained
 import model
 import moves
+import pixels
 import rings
 import rooms
 import stored
@@ -123,6 +126,11 @@ def main():
     for title, play in tiles.RECORDED:
         p.close(title.format(*play(p)))
     for part in tiles.PARTS + tilecounts.PARTS:
+        part(p)
+        p.close(part.__doc__.split(".")[0])
+    for title, play in explained.RECORDED:
+        p.close(title.format(*play(p)))
+    for part in explained.PARTS + pixels.PARTS:
         part(p)
         p.close(part.__doc__.split(".")[0])
     p.out += b"\0"

@@ -9,6 +9,8 @@ Words (64 bits each)
   46.. counts: true, false, uncertain, given up, queued, share
   52 the number of children, 53.. four blocks of 13: x, its level + 48, y, its level + 48, m, n, n_theta, t, direction
   105 the bytes that a ring needs, 106 the other ring's bytes lent, 107 the table's numbers lent
+  108 a pixel's column, 109 its row from the top, 110 the reason (0 none, 1 true, 2 false, 3 given up, 4 waiting), 111 the step, 112 the child, 113 the
+  point, 114 the number of the block that the pixel waits for, 115 the blocks before it; that block from 53 on
   128.. cells, 1536.. the table of tile counts
 Bytes
   0.. the ring, 3072.. verdicts or tape, 3584.. the picture; in a move 3072.. the other ring
@@ -20,14 +22,16 @@ in one, and the values. 255 closes a part: the length of its title, and the titl
 import struct
 
 import counted
+import logged
 import model
 from lists import one_nan
 
 CALLS = ("setup", "children", "step", "run", "picture", "counts", "least_ring", "enough_ring", "move_queue")
-CALLS += ("setup_with_table", "step_with_table", "run_with_table", "fill_table")
+CALLS += ("setup_with_table", "step_with_table", "run_with_table", "fill_table", "explain")
 WORDS, BYTES = 2048, 5120
 RING, TAPE, PICTURE, OTHER, CELLS, TABLE = 3072, 3072, 3584, 3072, 128, 1536
 ENDINGS = {"done": 1, "limit": 2, "more": 3}
+REASON = [*range(3, 28), *range(41, 46), *range(53, 66), *range(110, 116)]  # what an explanation may fill: record, sums, block, reason
 
 
 def bounds_words(intervals):
@@ -48,6 +52,19 @@ def block_words(b):
 
 def table_words(table):
     return [(107, len(table)), *enumerate(table, TABLE)]
+
+
+def ending_word(ending):
+    return ENDINGS.get(ending) or 100 + ending
+
+
+def reason_words(got):
+    """The words of an explanation, or of a step that refused on the way; those that do not apply stay."""
+    sums = [(42, got.evaluations), (43, got.verdicts), (44, got.steps), (45, ending_word(got.ending)), (110, got.reason)]
+    if got.reason == logged.WAITING:
+        return sums + [(114, got.number), (115, got.before)] + list(enumerate(block_words(got.block), 53))
+    moment = [(111, got.step), (112, got.child)] if got.reason else []
+    return sums + moment + ([(113, got.point)] if got.reason == logged.TRUTH else [])
 
 
 def size_of(v):
@@ -202,8 +219,7 @@ class Player:
         """A run that is given some words besides the tape, and leaves some after it."""
         words = [(41, got.refusal), *after]
         if not got.refusal:
-            ending = ENDINGS.get(got.ending) or 100 + got.ending
-            words += [(42, got.evaluations), (43, got.verdicts), (44, got.steps), (45, ending)]
+            words += [(42, got.evaluations), (43, got.verdicts), (44, got.steps), (45, ending_word(got.ending))]
         self.answer(call, self.tables(self.world, before, tape=tape), got.world, words, got.refusal)
         self.world = got.world
         return got
@@ -219,6 +235,16 @@ class Player:
         given = self.tables(self.world, table_words(table))
         self.answer("fill_table", given, self.world, [(41, refusal)] + table_words(left), refusal)
         return refusal, left
+
+    def explain(self, width, height, s, ranges, ring, cells, tape, steps, column, row, reserved=0):
+        """The reason for a pixel, told into words that hold 99 before; the world is afterwards what the finished steps left."""
+        got = logged.explain(width, height, s, ranges, ring, cells, tape, steps, column, row)
+        words = self.chosen(width, height, s, ranges, reserved) + [(39, steps), (108, column), (109, row)]
+        words += [(at, 99) for at in REASON]
+        given = self.tables(model.World(None, bytes(ring), list(cells)), words, tape=tape)
+        self.answer("explain", given, got.world, [(41, got.refusal)] + (reason_words(got) if got.world.record else []), got.refusal)
+        self.world = got.world
+        return got
 
     def picture(self, buffer):
         refusal, left = model.picture(self.world, buffer)

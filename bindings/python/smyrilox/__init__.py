@@ -24,6 +24,12 @@ A chart can also keep how many pixels of each tile of 16 by 16 read what, and ma
     chart.table.tile(3, 0)          # Tile(yes=0, no=0, uncertain=256, given_up=0)
     chart.table.thumbnail()         # a byte for each tile: 255 white, 0 black, greys between
 
+A chart that keeps its verdicts says why a pixel reads what it reads:
+
+    chart = Chart(Setup(5, 3, X | Y), steps=10, keep_verdicts=True)
+    chart.step(bytes([UNDECIDED, YES]))
+    str(chart.why(4, 0))            # 'True: step 1 marked it last; child 2 of that step showed it, by its area verdict.'
+
 The library, libsmyrilox.so, is looked for beside this module, then where the environment's SMYRILOX_SO says, then among the repository's
 products, where bindings/build puts it, then where the system's loader looks.
 """
@@ -32,6 +38,7 @@ from ._block import M, N, THETA, T, WHOLE, X, Y, Block, Coordinate, Interval, Se
 from ._chart import Chart, Counts, Grey, Reading, Run, Step
 from ._leaves import first_cut, later_cut, midpoint, simple_fraction
 from ._plot import BlockBox, Edges, MapKind, Padding, Plot
+from ._reason import Explanation, NotExplained, Reason, ReasonKind, SamplePoint, explain
 from ._refusal import WORDS, NoMemory, Refused
 from ._saved import NotLoaded
 from ._table import Table, Tile
@@ -65,6 +72,12 @@ __all__ = [
     "Grey",
     "Table",
     "Tile",
+    "explain",
+    "Explanation",
+    "Reason",
+    "ReasonKind",
+    "SamplePoint",
+    "NotExplained",
     "Plot",
     "Padding",
     "Edges",

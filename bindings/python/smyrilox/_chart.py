@@ -6,13 +6,14 @@ from ctypes import c_uint8, c_uint64, memmove
 from typing import Any, Callable, List, NamedTuple, Optional, Tuple, Union
 
 from . import _library as lib
-from . import _pictures, _saved, _table
+from . import _pictures, _reason, _saved, _table
 from ._block import Block, Setup, block_of, fits, setup_of
 from ._memory import copied, zeros
+from ._reason import NotExplained, Reason
 from ._refusal import NoMemory, Refused, check
 from ._saved import NotLoaded
 from ._table import Table
-from ._verdict import Verdict
+from ._verdict import Verdict, bytes_of, step_refused
 
 
 class Reading(enum.IntEnum):
@@ -66,7 +67,9 @@ class Chart:
     The ring has `ring` bytes; or as many as are enough for `steps` steps, none of which is then refused by 6; or, of a chart that grows,
     as many as its beginning needs. Where a step finds no room, a chart with `grows` doubles its ring and takes the step.
     `tag` says what the chart is of, the relation and the evaluator with its version: it is saved, and `load` must name it.
-    A chart that is begun or loaded `with_table` also keeps how many pixels of each tile read what: `table`. It is not saved."""
+    A chart that is begun or loaded `with_table` also keeps how many pixels of each tile read what: `table`. It is not saved.
+    One that is begun with `keep_verdicts` keeps the verdicts of its steps, so that `why` needs no tape: `verdicts`. They are not saved with
+    it either; `load` takes them along."""
 
     def __init__(
         self,
@@ -77,6 +80,7 @@ class Chart:
         grows: bool = False,
         tag: Union[bytes, str] = b"",
         with_table: bool = False,
+        keep_verdicts: bool = False,
     ):
         if ring is None:
             if steps is None and not grows:
@@ -89,28 +93,30 @@ class Chart:
             begin, lent = lib.library.smyrilox_setup_with_table, lent + [numbers, len(numbers)]
         started = begin(chosen, setup._ranges(), *lent)
         check(started.refusal)
-        self._own(started.state, bytes_, cells, setup._used_ranges(), tag, grows, numbers)
+        self._own(started.state, bytes_, cells, setup._used_ranges(), tag, grows, numbers, b"" if keep_verdicts else None)
 
-    def _own(self, state, ring, cells, ranges, tag, grows, numbers=None):
+    def _own(self, state, ring, cells, ranges, tag, grows, numbers=None, verdicts=None):
         # a lock that its holder may take again: step_with holds it while the evaluator is asked
         self._lock = threading.RLock()
         self._state, self._ring, self._cells, self._ranges = state, ring, cells, ranges
         self.tag, self.grows = tag, grows
         self._table = None if numbers is None else Table(state.chosen, self._lock, numbers)
+        self._verdicts = None if verdicts is None else bytearray(bytes_of(verdicts))
 
     def __copy__(self) -> "Chart":
         with self._lock:
             copy = object.__new__(type(self))
             state, ring, cells = map(copied, (self._state, self._ring, self._cells))
             numbers = None if self._table is None else copied(self._table._numbers)
-            copy._own(state, ring, cells, self._ranges, self.tag, self.grows, numbers)
+            copy._own(state, ring, cells, self._ranges, self.tag, self.grows, numbers, self._verdicts)
             return copy
 
     def __deepcopy__(self, memo) -> "Chart":
         return self.__copy__()
 
     def __reduce__(self):
-        return (Chart.load, (self.save(), self.tag, self.grows, self._table is not None))
+        with self._lock:
+            return (Chart.load, (self.save(), self.tag, self.grows, self._table is not None, self.verdicts))
 
     def __repr__(self) -> str:
         width, height = self.size
@@ -150,6 +156,16 @@ class Chart:
         """How many pixels of each tile read what, if the chart was begun or loaded `with_table`: every step brings it up to date."""
         return self._table
 
+    @property
+    def verdicts(self) -> Optional[bytes]:
+        """The verdicts of all steps, if they are kept: the chart's tape."""
+        with self._lock:
+            return None if self._verdicts is None else bytes(self._verdicts)
+
+    def _keep(self, verdicts: bytes) -> None:
+        if self._verdicts is not None:
+            self._verdicts += verdicts
+
     def grow(self, ring: int) -> None:
         """Moves the queue to a ring of so many bytes, longer or shorter. Refused by 6 where the queue's bytes are more; where there is no
         memory for it the error, NoMemory, names the bytes. Then nothing has changed."""
@@ -177,7 +193,7 @@ class Chart:
 
     def step(self, verdicts: bytes) -> Step:
         """One step, with a verdict byte for each child."""
-        verdicts = _bytes(verdicts)
+        verdicts = bytes_of(verdicts)
         given = (c_uint8 * len(verdicts)).from_buffer_copy(verdicts)
         with self._lock:
             stepped = self._call("step", given)
@@ -185,21 +201,10 @@ class Chart:
                 self.grow(2 * len(self._ring))
                 stepped = self._call("step", given)
             if stepped.refusal:
-                raise self._why(stepped.refusal, verdicts)
+                raise step_refused(stepped.refusal, verdicts, self.children)
             self._state = stepped.state
+            self._keep(verdicts)
         return Step(stepped.evaluations, stepped.tape)
-
-    def _why(self, number: int, verdicts: bytes) -> Refused:
-        """Why the next step was refused, with these verdicts: of 4 and 5, what is wrong with them."""
-        children = self.children() if number in (4, 5) else []
-        if number == 4:
-            counts = {"given": len(verdicts), "children": len(children)}
-            return Refused(4, "{given} verdicts for {children} children".format(**counts), **counts)
-        for place, (child, byte) in enumerate(zip(children, verdicts)):
-            if not Verdict(byte).is_legal_for(child):
-                words = f"child {place} (the first is 0), on level {child.level}, cannot have the verdict {byte:#04x}"
-                return Refused(5, words, child=place, level=child.level, byte=byte)
-        return Refused(number)
 
     def _ask(self, evaluator: Callable[[Block], int], children: List[Block]) -> bytes:
         steps = self.steps
@@ -235,7 +240,7 @@ class Chart:
 
     def run(self, tape: bytes, budget: int) -> Run:
         """Steps with verdicts from a tape, at most `budget` of them."""
-        tape, budget = _bytes(tape), fits(budget, 32, "the budget")
+        tape, budget = bytes_of(tape), fits(budget, 32, "the budget")
         steps = evaluations = taken = 0
         with self._lock:
             while True:
@@ -243,8 +248,9 @@ class Chart:
                 ran = self._call("run", given, budget - steps)
                 check(ran.refusal)
                 self._state = ran.state
+                self._keep(tape[taken : taken + ran.tape])
                 steps, evaluations, taken = steps + ran.steps, evaluations + ran.evaluations, taken + ran.tape
-                why = self._why(ran.stop, tape[taken:]) if ran.stop else ""
+                why = step_refused(ran.stop, tape[taken:], self.children) if ran.stop else ""
                 if ran.stop != 6 or not self.grows:
                     break
                 try:
@@ -252,7 +258,7 @@ class Chart:
                 except NoMemory as no:
                     why = no
                     break
-        return Run(_ENDINGS[ran.ending], ran.stop, steps, evaluations, taken, str(why))
+        return Run(lib.ENDINGS[ran.ending], ran.stop, steps, evaluations, taken, str(why))
 
     def picture(self) -> bytes:
         """A byte for each pixel, rows from the top: the values of Reading."""
@@ -288,22 +294,48 @@ class Chart:
         c = counted.counts
         return Counts(c.trues, c.falses, c.uncertain, c.givenup, c.queued, c.share)
 
+    def why(self, column: int, row: int, tape: Optional[bytes] = None) -> Reason:
+        """Why the pixel in this column, and in this row from the top, reads what it reads, by the verdicts that the chart keeps or by a tape
+        with those of all its steps; what follows them there is not looked at. The steps are repeated in memory beside the chart's, and must
+        lead to this very chart; of two tapes that do, each gets the answer of its own verdicts. Refused by 18 for a pixel outside the
+        picture, or by the number of a step, which the error names: `step`; NotExplained where there are no verdicts, or a tape leads to
+        another chart."""
+        with self._lock:
+            setup, tape = self.setup, self._verdicts if tape is None else tape
+            if tape is None:
+                raise NotExplained("the chart keeps no verdicts: hand in its tape, or begin it with keep_verdicts")
+            if setup is None:
+                raise NotExplained("the chart was loaded from layout 1, which does not say its ranges")
+            repeated = _reason.repeated_with_room(setup, self._state.len, bytes_of(tape), self.steps, column, row)
+            explanation = repeated.explanation()
+            if not repeated.leads_to(self._state, self._ring, self._cells):
+                raise NotExplained("the steps of this tape lead to another chart")
+            return explanation.reason
+
     def save(self) -> bytes:
         """The chart as bytes, to be loaded again: record, queue and cells together, layout 2 of bindings/SAVED.md."""
         with self._lock:
             return _saved.written(self._state, self._ranges, _tag(self.tag), self._ring, self._cells)
 
     @classmethod
-    def load(cls, saved: bytes, tag: Union[bytes, str] = b"", grows: bool = False, with_table: bool = False) -> "Chart":
-        """The chart that these bytes were saved from, with this tag; a table is filled anew. Raises NotLoaded, or Refused where the engine
-        refuses the record, a cell, the front block or a range."""
+    def load(
+        cls,
+        saved: bytes,
+        tag: Union[bytes, str] = b"",
+        grows: bool = False,
+        with_table: bool = False,
+        verdicts: Optional[bytes] = None,
+    ) -> "Chart":
+        """The chart that these bytes were saved from, with this tag; a table is filled anew. Handed the `verdicts` of all its steps it keeps
+        them, and those of its further ones; that they are its own is seen when a pixel is explained. Raises NotLoaded, or Refused where the
+        engine refuses the record, a cell, the front block or a range."""
         has = _saved.read(saved)
         if has.tag != _tag(tag):
             raise NotLoaded(f"a chart saved with the tag {has.tag!r}, not {_tag(tag)!r}")
         ring, cells = zeros(c_uint8, has.state.len), (c_uint64 * (len(has.cells) // 8)).from_buffer_copy(has.cells)
         memmove(ring, has.ring, len(has.ring))
         chart = cls.__new__(cls)
-        chart._own(has.state, ring, cells, has.ranges, has.tag, grows)
+        chart._own(has.state, ring, cells, has.ranges, has.tag, grows, verdicts=verdicts)
         chart.counts()
         if not chart.finished:
             chart.children()
@@ -314,7 +346,6 @@ class Chart:
         return chart
 
 
-_ENDINGS = {1: "done", 2: "limit", 3: "more", 4: "stop"}
 # the cell of a pixel that is given up
 _GIVEN_UP = 2**32 + 1
 
@@ -323,14 +354,6 @@ def _grey(reading: int, cell: int) -> Grey:
     if reading != Reading.UNCERTAIN:
         return Grey.DECIDED
     return Grey.GIVEN_UP if cell == _GIVEN_UP else Grey.WAITS
-
-
-def _bytes(given) -> bytes:
-    """Bytes, or whatever lends its memory as bytes; a number or a list is a mistake, and so are bools, though each takes a byte."""
-    view = memoryview(given)
-    if view.format.lstrip("@=<>!") not in ("B", "c"):
-        raise TypeError(f"verdicts are bytes, not elements of the format {view.format!r}")
-    return view.tobytes()
 
 
 def _tag(tag: Union[bytes, str]) -> bytes:

@@ -6,6 +6,8 @@ from ctypes import POINTER, Structure, c_bool, c_double, c_int32, c_size_t, c_ui
 
 PARAMETERS = ("m", "n", "theta", "t")
 SIDES = ("left", "right", "bottom", "top")
+# how a run ended, by the number in the header
+ENDINGS = {1: "done", 2: "limit", 3: "more", 4: "stop"}
 
 
 class Interval(Structure):
@@ -73,6 +75,12 @@ class Ran(Structure):
     _fields_ = [(n, c_uint64) for n in ("refusal", "ending", "stop", "steps", "evaluations")] + [("tape", c_size_t), ("state", State)]
 
 
+class Explained(Structure):
+    _fields_ = [(n, c_uint64) for n in ("refusal", "reason", "step", "child", "point", "number", "before")]
+    _fields_ += [("block", Child)] + [(n, c_uint64) for n in ("direction", "ending", "steps", "evaluations")]
+    _fields_ += [("tape", c_size_t), ("state", State)]
+
+
 class Tally(Structure):
     _fields_ = [(n, c_uint64) for n in ("trues", "falses", "uncertain", "givenup", "queued", "share")]
 
@@ -101,8 +109,8 @@ class Boxed(Structure):
     _fields_ = [("refusal", c_uint64), ("edges", Edges), ("x", Interval), ("y", Interval)]
 
 
-RECORDS = (Interval, Ranges, Coordinate, Last, Chosen, State, Child, Number, Point, Started, Moved, Listed, Stepped, Ran, Tally, Counted, Pieces)
-RECORDS += (Padding, Edges, Plot, Boxed)
+RECORDS = (Interval, Ranges, Coordinate, Last, Chosen, State, Child, Number, Point, Started, Moved, Listed, Stepped, Ran, Explained, Tally)
+RECORDS += (Counted, Pieces, Padding, Edges, Plot, Boxed)
 
 
 def layout(records=RECORDS) -> int:
@@ -163,6 +171,7 @@ def declared(found):
         ("step_with_table", [State] + bytes_ + cells + table + bytes_, Stepped),
         ("run_with_table", [State] + bytes_ + cells + table + bytes_ + [c_uint32], Ran),
         ("fill_table", [State] + cells + table, c_uint64),
+        ("explain", [Chosen, Ranges] + bytes_ + cells + bytes_ + [c_uint32, c_uint32, c_uint32], Explained),
         ("midpoint", [Interval], Point),
         ("simple_fraction", [Interval], Point),
         ("first_cut", [Interval, c_bool], Pieces),

@@ -19,12 +19,14 @@ WORDS = {
     15: "a bound of the box is not finite, or its ends cross",
     16: "the padding leaves no width or no height",
     17: "the table has fewer than four numbers a tile",
+    18: "the pixel lies outside the picture",
 }
 
 
 class Refused(Exception):
     """A call was refused, and has changed nothing. `number` is its number in the table of refusals. A step's 4 has also `given` and
-    `children`, two counts; its 5 has `child`, the place in the listing from 0, its `level`, and the `byte` that it cannot have."""
+    `children`, two counts; its 5 has `child`, the place in the listing from 0 (a Reason counts from 1), its `level`, and the `byte` that it
+    cannot have. Where the steps of a tape are repeated, `step` is the one that was refused, from 1."""
 
     def __init__(self, number: int, words: str = "", **about: int):
         super().__init__(number, words or WORDS.get(number, "this module has no words for it"))

@@ -33,17 +33,21 @@ _HEAD_1 = struct.Struct("<8sI12s6Q80s80s")
 
 
 def written(state: lib.State, ranges: Optional[lib.Ranges], tag: bytes, ring, cells) -> bytes:
-    chosen, ring = state.chosen, memoryview(ring)
+    chosen = state.chosen
     pixels = chosen.width * chosen.height
     head = _HEAD_2.pack(
         *(_NAME, 2, chosen.width, chosen.height, chosen.set, *_KIND.values(), ranges is not None, 0, len(tag)),
         *(state.taken, state.queued, state.len, state.used, pixels),
         *(_WHOLE if ranges is None else bytes(ranges), bytes(state.front), bytes(state.back)),
     )
-    end = state.head + state.used
-    queue = ring[state.head : end].tobytes() + ring[: max(0, end - state.len)].tobytes()
-    body = head + tag + queue + memoryview(cells)[:pixels].tobytes()
+    body = head + tag + queue_bytes(state, ring) + memoryview(cells)[:pixels].tobytes()
     return body + struct.pack("<I", zlib.crc32(body))
+
+
+def queue_bytes(state: lib.State, ring) -> bytes:
+    """The ring's bytes in use, from the head on."""
+    ring, end = memoryview(ring), state.head + state.used
+    return ring[state.head : end].tobytes() + ring[: max(0, end - state.len)].tobytes()
 
 
 def read(saved: bytes) -> Saved:

@@ -1,6 +1,9 @@
 """What an evaluator answers."""
 
+from typing import Any, Callable, List
+
 from ._block import Block
+from ._refusal import Refused
 
 
 class Verdict(int):
@@ -48,3 +51,23 @@ def found_at(place: int) -> Verdict:
 def yes_for(child: Block) -> Verdict:
     """That each pixel of the child holds a solution, as a child of its level may say it. A plain YES below level 0 counts as undecided."""
     return YES | AREA if child.level < 0 else YES
+
+
+def bytes_of(given: Any) -> bytes:
+    """Bytes, or whatever lends its memory as bytes; a number or a list is a mistake, and so are bools, though each takes a byte."""
+    view = memoryview(given)
+    if view.format.lstrip("@=<>!") not in ("B", "c"):
+        raise TypeError(f"verdicts are bytes, not elements of the format {view.format!r}")
+    return view.tobytes()
+
+
+def step_refused(number: int, verdicts: bytes, children: Callable[[], List[Block]]) -> Refused:
+    """Why a step was refused, with these verdicts: of 4 and 5, what is wrong with them, by the children that it asked about."""
+    if number == 4:
+        counts = {"given": len(verdicts), "children": len(children())}
+        return Refused(4, "{given} verdicts for {children} children".format(**counts), **counts)
+    for place, (child, byte) in enumerate(zip(children() if number == 5 else [], verdicts)):
+        if not Verdict(byte).is_legal_for(child):
+            words = f"child {place} (the first is 0), on level {child.level}, cannot have the verdict {byte:#04x}"
+            return Refused(5, words, child=place, level=child.level, byte=byte)
+    return Refused(number)

@@ -15,10 +15,12 @@ pub struct Chart<B: Buffers = Owned> {
     pub(crate) grows: bool,
     /// The tile counts, where they were asked for: every step brings them up to date.
     pub(crate) table: Option<Table>,
+    /// The verdicts of all steps, where they are kept: by them a pixel is explained.
+    pub(crate) verdicts: Option<Vec<u8>>,
 }
 
 /// The number of `Refusal::Room`.
-const ROOM: u64 = 6;
+pub(crate) const ROOM: u64 = 6;
 
 /// What a step did: the evaluations that it cost and the verdicts that it took.
 #[derive(Clone, Copy, Debug, PartialEq, Eq)]
@@ -74,7 +76,8 @@ fn begin<B: Buffers>(s: &Setup, mut buffers: B) -> Result<Chart<B>, Refusal> {
         )
     };
     Refusal::check(started.refusal)?;
-    Ok(Chart { state: started.state, buffers, ranges: Some(s.used_ranges()), tag: Vec::new(), grows: false, table: None })
+    let ranges = Some(s.used_ranges());
+    Ok(Chart { state: started.state, buffers, ranges, tag: Vec::new(), grows: false, table: None, verdicts: None })
 }
 
 impl<B: Buffers> Chart<B> {
@@ -118,15 +121,17 @@ impl<B: Buffers> Chart<B> {
 
     /// One step, with a verdict byte for each child.
     pub fn step(&mut self, verdicts: &[u8]) -> Result<Step, Refusal> {
+        self.make_room_for(verdicts.len())?;
         loop {
             let stepped = self.call_step(verdicts);
             match stepped.refusal {
                 0 => {
                     self.state = stepped.state;
+                    self.keep(verdicts);
                     return Ok(Step { evaluations: stepped.evaluations, verdicts: stepped.tape });
                 }
                 ROOM if self.grows => self.state = self.buffers.double(self.state)?,
-                number => return Err(self.why(number, verdicts)),
+                number => return Err(self.refusal(number, verdicts)),
             }
         }
     }
@@ -163,16 +168,18 @@ impl<B: Buffers> Chart<B> {
 
     /// Steps with verdicts from a tape, at most `budget` of them.
     pub fn run(&mut self, tape: &[u8], budget: u32) -> Result<Run, Refusal> {
+        self.make_room_for(tape.len().min(4 * budget as usize))?;
         let mut all = Run { ending: Ending::More, steps: 0, evaluations: 0, tape: 0 };
         loop {
             let rest = &tape[all.tape..];
             let ran = self.call_run(rest, budget - all.steps as u32);
             Refusal::check(ran.refusal)?;
             self.state = ran.state;
+            self.keep(&rest[..ran.tape]);
             all.steps += ran.steps;
             all.evaluations += ran.evaluations;
             all.tape += ran.tape;
-            all.ending = self.ending(&ran, &rest[ran.tape..]);
+            all.ending = ending(ran.ending, || self.refusal(ran.stop, &rest[ran.tape..]));
             match all.ending {
                 Ending::Stop(Refusal::Room) if self.grows => match self.buffers.double(self.state) {
                     Ok(state) => self.state = state,
@@ -203,24 +210,28 @@ impl<B: Buffers> Chart<B> {
         }
     }
 
-    /// How a run ended that has left so much of its tape.
-    fn ending(&self, ran: &ffi::Ran, left: &[u8]) -> Ending {
-        match ran.ending {
-            1 => Ending::Done,
-            2 => Ending::Limit,
-            3 => Ending::More,
-            4 => Ending::Stop(self.why(ran.stop, left)),
-            other => panic!("the library says that a run ended by {other}, which is none of its endings: it is not the one of this crate"),
-        }
+    fn refusal(&self, number: u64, verdicts: &[u8]) -> Refusal {
+        step_refused(number, verdicts, || self.children())
     }
+}
 
-    /// Why the next step was refused, with these verdicts: of 4 and 5, what is wrong with them.
-    fn why(&self, number: u64, verdicts: &[u8]) -> Refusal {
-        match (number, self.children()) {
-            (4, Ok(children)) => Refusal::Verdicts { given: verdicts.len(), children: children.len() },
-            (5, Ok(children)) => first_illegal(&children, verdicts).unwrap_or(Refusal::Other(5)),
-            _ => Refusal::of(number),
-        }
+/// The ending with a number, of a run that may have been stopped by this refusal.
+pub(crate) fn ending(number: u64, stop: impl FnOnce() -> Refusal) -> Ending {
+    match number {
+        1 => Ending::Done,
+        2 => Ending::Limit,
+        3 => Ending::More,
+        4 => Ending::Stop(stop()),
+        other => panic!("the library says that a run ended by {other}, which is none of its endings: it is not the one of this crate"),
+    }
+}
+
+/// Why a step was refused, with these verdicts: of 4 and 5, what is wrong with them, by the children that it asked about.
+pub(crate) fn step_refused(number: u64, verdicts: &[u8], children: impl FnOnce() -> Result<Children, Refusal>) -> Refusal {
+    match (number, if let 4 | 5 = number { children().ok() } else { None }) {
+        (4, Some(children)) => Refusal::Verdicts { given: verdicts.len(), children: children.len() },
+        (5, Some(children)) => first_illegal(&children, verdicts).unwrap_or(Refusal::Other(5)),
+        _ => Refusal::of(number),
     }
 }
 

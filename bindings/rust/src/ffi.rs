@@ -133,6 +133,25 @@ pub struct Ran {
 
 #[repr(C)]
 #[derive(Clone, Copy, Default)]
+pub struct Explained {
+    pub refusal: u64,
+    pub reason: u64,
+    pub step: u64,
+    pub child: u64,
+    pub point: u64,
+    pub number: u64,
+    pub before: u64,
+    pub block: Child,
+    pub direction: u64,
+    pub ending: u64,
+    pub steps: u64,
+    pub evaluations: u64,
+    pub tape: usize,
+    pub state: State,
+}
+
+#[repr(C)]
+#[derive(Clone, Copy, Default)]
 pub struct Counted {
     pub refusal: u64,
     pub counts: Tally,
@@ -307,6 +326,19 @@ extern "C" {
         budget: u32,
     ) -> Ran;
     pub fn smyrilox_fill_table(state: State, cells: *const u64, cells_len: usize, table: *mut u32, table_len: usize) -> u64;
+    pub fn smyrilox_explain(
+        chosen: Chosen,
+        ranges: Ranges,
+        ring: *mut u8,
+        ring_len: usize,
+        cells: *mut u64,
+        cells_len: usize,
+        tape: *const u8,
+        tape_len: usize,
+        steps: u32,
+        column: u32,
+        row: u32,
+    ) -> Explained;
     pub fn smyrilox_midpoint(x: Interval) -> Point;
     pub fn smyrilox_simple_fraction(x: Interval) -> Point;
     pub fn smyrilox_subdivision_point(x: Interval, integer: bool) -> Point;

@@ -31,6 +31,7 @@ fn numbers() -> Vec<usize> {
         Listed: refusal count at;
         Stepped: refusal evaluations tape state;
         Ran: refusal ending stop steps evaluations tape state;
+        Explained: refusal reason step child point number before block direction ending steps evaluations tape state;
         Tally: trues falses uncertain givenup queued share;
         Counted: refusal counts;
         Pieces: refusal count at;
@@ -64,7 +65,8 @@ mod tests {
         let header: &[&[usize]] = &[
             &[16, 0, 8], &[64, 0, 16, 32, 48], &[16, 0, 8], &[80, 0, 8, 16, 32, 48, 64], &[12, 0, 4, 8, 9, 10, 11],
             &[216, 0, 16, 24, 32, 40, 48, 56, 136], &[96, 0, 16, 32, 48, 64, 80], &[16, 0, 8], &[16, 0, 8], &[224, 0, 8], &[224, 0, 8],
-            &[400, 0, 8, 16], &[240, 0, 8, 16, 24], &[264, 0, 8, 16, 24, 32, 40, 48], &[48, 0, 8, 16, 24, 32, 40], &[56, 0, 8], &[64, 0, 8, 16],
+            &[400, 0, 8, 16], &[240, 0, 8, 16, 24], &[264, 0, 8, 16, 24, 32, 40, 48],
+            &[408, 0, 8, 16, 24, 32, 40, 48, 56, 152, 160, 168, 176, 184, 192], &[48, 0, 8, 16, 24, 32, 40], &[56, 0, 8], &[64, 0, 8, 16],
             &[16, 0, 4, 8, 12], &[64, 0, 16, 32, 48], &[88, 0, 4, 8, 24], &[104, 0, 8, 72, 88],
         ];
         assert_eq!(super::numbers(), header.concat());

@@ -11,7 +11,7 @@ pub enum Refusal {
     Parameter,
     /// Not one verdict for each child; in a run, what is left of the tape is less.
     Verdicts { given: usize, children: usize },
-    /// A verdict that its child, by its place in the listing from 0, cannot have on its level.
+    /// A verdict that its child, by its place in the listing from 0 (a `Reason` counts from 1), cannot have on its level.
     Verdict { child: usize, level: i32, byte: u8 },
     Room,
     /// As `Room`, where a chart should get a longer ring: there is no memory for so many bytes.
@@ -30,6 +30,8 @@ pub enum Refusal {
     Padding,
     /// A lent table has under four numbers a tile.
     Table,
+    /// A pixel outside the picture.
+    Pixel,
     /// A number that this crate has no name for: the library is a later one.
     Other(u64),
 }
@@ -37,7 +39,7 @@ pub enum Refusal {
 use Refusal::*;
 
 /// The refusals that say no more than their number, with their words.
-const WORDS: [(u64, Refusal, &str); 15] = [
+const WORDS: [(u64, Refusal, &str); 16] = [
     (1, Side, "a side is 0 or over 32768"),
     (2, Cells, "there are fewer cells than pixels"),
     (3, Parameter, "the set of variables, the range of a parameter or the interval of a plot's edge is not legal"),
@@ -53,6 +55,7 @@ const WORDS: [(u64, Refusal, &str); 15] = [
     (15, Bounds, "a bound of the box is not finite, or its ends cross"),
     (16, Padding, "the padding leaves no width or no height"),
     (17, Table, "the table has fewer than four numbers a tile"),
+    (18, Pixel, "the pixel lies outside the picture"),
 ];
 
 impl Refusal {

@@ -57,6 +57,12 @@ fn moved(state: ffi::State, ring: &[u8], other: &mut [u8]) -> Result<ffi::State,
     Ok(moved.state)
 }
 
+/// The ring's bytes in use, from the head on, in two parts.
+pub(crate) fn queue<'a>(state: &ffi::State, ring: &'a [u8]) -> [&'a [u8]; 2] {
+    let before_the_end = state.used.min(ring.len() - state.head);
+    [&ring[state.head..state.head + before_the_end], &ring[..state.used - before_the_end]]
+}
+
 /// A number of which all bytes may be 0.
 pub(crate) trait Number: Copy {}
 impl Number for u8 {}

@@ -150,7 +150,7 @@ impl<'a> Saved<'a> {
         ring.get_mut(..self.ring.len()).ok_or(NotLoaded::Length)?.copy_from_slice(self.ring);
         cells.iter_mut().zip(self.cells()).for_each(|(cell, n)| *cell = n);
         let tag = self.tag.to_vec();
-        let chart = Chart { state: self.state, buffers, ranges: self.ranges, tag, grows: false, table: None };
+        let chart = Chart { state: self.state, buffers, ranges: self.ranges, tag, grows: false, table: None, verdicts: None };
         is_sound(&chart).map_err(NotLoaded::Refused)?;
         Ok(chart)
     }

@@ -102,8 +102,9 @@ fn numbers() {
     let (verdicts, verdict) = (Verdicts { given: 0, children: 1 }, Verdict { child: 0, level: 0, byte: 1 });
     let named = [
         Side, Cells, Parameter, verdicts, verdict, Room, Numbers, Damaged, TooLarge, EndsEarly, HeadZero, Picture, Empty, Sheet, Bounds, Padding, Table,
+        Pixel,
     ];
-    assert_eq!(named.map(Refusal::number), [1, 2, 3, 4, 5, 6, 7, 8, 9, 10, 11, 12, 13, 14, 15, 16, 17]);
+    assert_eq!(named.map(Refusal::number), [1, 2, 3, 4, 5, 6, 7, 8, 9, 10, 11, 12, 13, 14, 15, 16, 17, 18]);
     assert_eq!((Other(23).number(), Other(23).to_string().as_str()), (23, "refused 23: this crate has no words for it"));
 }
 

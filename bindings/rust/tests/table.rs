@@ -1,5 +1,8 @@
 //! Tables of tile counts: the values of document 02, tables held against a recount of the picture, and thumbnails.
 
+mod chance;
+
+use chance::Chance;
 use smyrilox::{Buffers, Chart, Ending, Grey, Interval, Reading, Refusal, Setup, Tile, Variables, Verdict};
 
 fn plane(width: u32, height: u32) -> Setup {
@@ -36,17 +39,7 @@ fn recount<B: Buffers>(chart: &Chart<B>) -> Vec<u32> {
     due
 }
 
-/// Numbers that only look like chance.
-struct Chance(u64);
-
 impl Chance {
-    fn below(&mut self, n: u64) -> u64 {
-        self.0 ^= self.0 << 13;
-        self.0 ^= self.0 >> 7;
-        self.0 ^= self.0 << 17;
-        (self.0 >> 32) % n
-    }
-
     fn verdict(&mut self, level: i32) -> Verdict {
         match (level < 0, self.below(6)) {
             (false, 4) => Verdict::YES,

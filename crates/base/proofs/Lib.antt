@@ -3,3 +3,4 @@ pub mod Test
 pub mod BytesLaws
 pub mod AxisLaws
 pub mod ListLaws
+pub mod PlacesNamed

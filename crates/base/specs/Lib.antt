@@ -3,3 +3,4 @@ pub mod Bytes
 pub mod Event
 pub mod Axis
 pub mod Lists
+pub mod Places

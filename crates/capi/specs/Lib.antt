@@ -3,3 +3,4 @@ pub mod Engine
 pub mod Leaf
 pub mod LeafComputed
 pub mod Boxing
+pub mod Explaining

@@ -39,7 +39,7 @@ pub(crate) fn refusal_number(why: Refusal) -> u64
 }
 
 // A record of no picture, which every call refuses.
-fn blank_state() -> State
+pub(crate) fn blank_state() -> State
     ensures { λ r. ⌜ r ≡ blankState ⌝ }
 {
     let last = starting_last();
@@ -126,7 +126,7 @@ pub(crate) fn step_record(a: StepAnswer) -> Stepped
 }
 
 // The ending's number.
-fn ending_number(e: Ending) -> u64
+pub(crate) fn ending_number(e: Ending) -> u64
     ensures { λ r. ⌜ r ≡ endingNumber e ⌝ }
 {
     match e {
@@ -224,7 +224,7 @@ fn level_of(rank: u8) -> i32
     rank as i32 - RANK_OF_LEVEL_0
 }
 
-fn child_record(b: Block) -> Child
+pub(crate) fn child_record(b: Block) -> Child
     ensures { λ r. ⌜ r ≡ childRecord b ⌝ }
 {
     let m = b.m;

@@ -132,3 +132,22 @@ pub struct Boxed {
     pub x: Interval,
     pub y: Interval,
 }
+
+// An explanation's answer: the reason is 1 true, 2 false, 3 given up, 4 waiting, and 0 where there is none; what does not apply is blank.
+#[repr(C)]
+pub struct Explained {
+    pub refusal: u64,
+    pub reason: u64,
+    pub step: u64,
+    pub child: u64,
+    pub point: u64,
+    pub number: u64,
+    pub before: u64,
+    pub block: Child,
+    pub direction: u64,
+    pub ending: u64,
+    pub steps: u64,
+    pub evaluations: u64,
+    pub tape: usize,
+    pub state: State,
+}

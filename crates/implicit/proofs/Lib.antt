@@ -17,6 +17,7 @@ pub mod StepLaws
 pub mod StepLawsWent
 pub mod CellsWhole
 pub mod StepLawsSound
+pub mod StepAnswered
 pub mod TiledLaws
 pub mod TiledTests
 pub mod TiledBegin

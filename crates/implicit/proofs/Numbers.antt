@@ -92,6 +92,7 @@ never-zero R.Sheet e = omega arith
 never-zero R.Bounds e = omega arith
 never-zero R.Padding e = omega arith
 never-zero R.Table e = omega arith
+never-zero R.Pixel e = omega arith
 
 -- setup
 pub setup-number : (p : Chosen) (r : Ranges) (len count : ℕ)

@@ -1,12 +1,12 @@
 -- Laws of sound records and of what they remember. Assumes nothing.
-use mathlib.Core.Path.{_≡_, refl, sym, ap, _∙_}
+use mathlib.Core.Path.{_≡_, refl, sym, ap, ap₂, _∙_}
 use mathlib.Core.List.{List, [], _∷_}
-use mathlib.Core.Bool.{Bool, true, false, not, _&&_}
+use mathlib.Core.Bool.{Bool, true, false, not, _&&_, false≢true}
 use Prim.Native.Nat.{ℕ, zero, suc, _+_, _^_, _≤_, _<_}
 use native.Mathlib.Nat.{mul-le-mul-right}
 use native.Mathlib.Omega.{arith}
 use lib.Dec.{leb, ltb, eqb}
-use lib.Ieee.{le, lt, eq}
+use lib.Ieee.{Float, nan, inf, fin, le, lt, eq}
 use lib.ListN.{length, getD, take}
 use lib.ListN as L
 use lib.Seq.{take-nil, length-take-le, getD-take}
@@ -14,7 +14,8 @@ use borrow.Author.Tests.{leb-true, ltb-true, eqb-true, eqb-false, le-leb, lt-ltb
 use Rattle.base.proofs.Test.{cases, and-left, and-right, and-six, and-implied, beq-true, beq-self}
 use Rattle.coordinate.specs.Axis.{ordinaryFloor}
 use Rattle.coordinate.proofs.PixelLaws.{ranged}
-use Rattle.interval.specs.Bounds.{legalInterval, wholeBound}
+use Rattle.interval.specs.declared.Interval.{Interval}
+use Rattle.interval.specs.Bounds.{legalInterval, wholeBound, sameInterval}
 use Rattle.interval.proofs.Legality.{put-again, put-legal}
 use Rattle.image.specs.Cell.{Cell, Named, meaningOf, meanings}
 use Rattle.image.specs.Range.{cellIndex, holdsCell, pictureReady, wholePicture}
@@ -23,7 +24,8 @@ use Rattle.image.proofs.AtLaws.{keepAt-none}
 use Rattle.image.proofs.RangeLaws.{cell-below, beyond-not-held, whole-holds, whole-in-picture}
 use Rattle.queue.specs.declared.Block.{Block}
 use Rattle.queue.specs.declared.Last.{Last}
-use Rattle.queue.specs.Block.{remembered, startingLast}
+use Rattle.queue.specs.Block.{wholeLine, remembered, startingLast}
+use Rattle.queue.proofs.KeptLaws.{line-legal}
 use Rattle.decide.specs.declared.Chosen.{Chosen}
 use Rattle.decide.specs.Damage.{legalChosen, undamaged}
 use Rattle.decide.proofs.DamageLaws.{LegalChosen, legal-chosen, is-undamaged}
@@ -31,6 +33,25 @@ use Rattle.implicit.specs.declared.state.State.{State}
 use Rattle.implicit.specs.Record.{pixelCount, pixelCells, soundLast, soundCounts, soundRing, soundUse, soundRecord, queueEmpty, putLast}
 
 -- BY THE TESTS THAT THE CODE MAKES
+
+-- what equals an infinity as a number is that infinity
+only-inf : (s : Bool) (a : Float) → eq a (inf s) ≡ true → a ≡ inf s
+unfolding eq
+only-inf s nan e = absurd (false≢true e)
+only-inf true (inf true) e = refl
+only-inf true (inf false) e = absurd (false≢true e)
+only-inf false (inf true) e = absurd (false≢true e)
+only-inf false (inf false) e = refl
+only-inf s (fin t m x) e = absurd (false≢true e)
+
+-- the whole line is legal
+pub line-kept : (x l : Interval) (integer same : Bool) → l ≡ wholeLine → same ≡ sameInterval x l → same ≡ true → true ≡ legalInterval x integer
+unfolding sameInterval
+line-kept x l integer same e f g =
+    let h : eq (x .lower) (inf true) && eq (x .upper) (inf false) ≡ true = sym (rw e at f) ∙ g in
+    let a = only-inf true (x .lower) (and-left (eq (x .lower) (inf true)) (eq (x .upper) (inf false)) h) in
+    let b = only-inf false (x .upper) (and-right (eq (x .lower) (inf true)) (eq (x .upper) (inf false)) h) in
+    sym (ap₂ (λ (u v : Float). legalInterval (record { lower = u; upper = v }) integer) a b ∙ line-legal integer)
 
 pub sound-last-as : (l : Last) (m n theta t : Bool) → m ≡ legalInterval (l .m) true → n ≡ legalInterval (l .n) true
     → theta ≡ legalInterval (l .theta) true → t ≡ legalInterval (l .t) false

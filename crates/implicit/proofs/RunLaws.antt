@@ -37,6 +37,7 @@ use Rattle.implicit.proofs.RunLoop.{RunsBy}
 use Rattle.implicit.proofs.StepLawsKept.{LastHeld}
 use Rattle.implicit.proofs.StepLawsWent.{step-few, step-stays}
 use Rattle.implicit.proofs.StepLawsSound.{step-sound}
+use Rattle.implicit.proofs.StepAnswered.{answered-finished, answered-refused}
 
 -- A RUN'S SUMS
 
@@ -120,18 +121,6 @@ runs-plainly = record {
 
 -- BY THE TESTS THAT THE CODE MAKES
 
--- a step's answer, and how far the run then is
-ends-in : (p : Progress) (w : World) (s : StepEnd) (a : StepAnswer) (ring′ cells′ : List ℕ) → EndsAs w s a ring′ cells′
-    → (why : Refusal) (t : State) → a ≡ St.Refused why t → (s ≡ refused why) × (w .state ≡ t)
-ends-in p w (refused why′) a ring′ cells′ e why t f =
-    let k : St.Refused why′ (w .state) ≡ St.Refused why t = sym (e .0) ∙ f in
-    let j : why′ ≡ why = cc in
-    (ap refused j, cc)
-ends-in p w (finished next evals bytes) a ring′ cells′ e why t f =
-    let k : St.Finished (next .state) evals bytes ≡ St.Refused why t = sym (e .0) ∙ f in
-    let z : _≡_ {A = ℕ} 0 1 = cc in
-    absurd (omega arith)
-
 -- the part of the tape from here on is its rest
 pub step-rest : (p : Progress) (ring cells tape : List ℕ) (a : StepAnswer) (ring′ cells′ : List ℕ)
     → EndsAs (worldOf (p .state) ring cells) (tapeStepOf (worldOf (p .state) ring cells) (take (length tape - p .tape) (drop (p .tape) tape))) a ring′ cells′
@@ -147,45 +136,32 @@ next-itself p ring cells tape left e n h = h
 
 module _ (p : Progress) (ring cells tape : List ℕ) (next : StepEnd) (plain : AsNext p ring cells tape next) (a : StepAnswer) (ring′ cells′ : List ℕ)
     (ends : EndsAs (worldOf (p .state) ring cells) next a ring′ cells′) where
+  abbrev here : World
+  here = worldOf (p .state) ring cells
+
   pub step-stop : (why : Refusal) (t : State) (r : Progress) → a ≡ St.Refused why t → r ≡ halted p (E.Stop why) → SoundByUse (length ring) (p .state)
-      → Tried p (worldOf (p .state) ring cells) next r ring′ cells′
+      → Tried p here next r ring′ cells′
   step-stop why t r f g h =
-      let s = ends-in p (worldOf (p .state) ring cells) next a ring′ cells′ ends why t f .0 in
+      let s = answered-refused here next why t ring′ cells′ (rw f at ends) .0 in
       (g ∙ sym (ap (progressAfter p) s), rw (g, ends .1, ends .2, s), rw (g, ends .1, s) h)
 
-  pub step-on : (t : State) (evals bytes : ℕ) (r : Progress) → a ≡ St.Finished t evals bytes → r ≡ stepped p t evals bytes → LastHeld (p .state .front)
-      → Tried p (worldOf (p .state) ring cells) next r ring′ cells′
-  step-on t evals bytes r f g held = go next refl ends
-    where
-      go : (s : StepEnd) → next ≡ s → EndsAs (worldOf (p .state) ring cells) s a ring′ cells′
-          → Tried p (worldOf (p .state) ring cells) s r ring′ cells′
-      go (refused why) h e =
-          let k : St.Refused why (p .state) ≡ St.Finished t evals bytes = sym (e .0) ∙ f in
-          let z : _≡_ {A = ℕ} 0 1 = cc in
-          absurd (omega arith)
-      go (finished left evals′ bytes′) h e =
-          let k : St.Finished (left .state) evals′ bytes′ ≡ St.Finished t evals bytes = sym (e .0) ∙ f in
-          let x : left .state ≡ t = cc in
-          let y : evals′ ≡ evals = cc in
-          let z : bytes′ ≡ bytes = cc in
-          let sound = step-sound true (worldOf (p .state) ring cells) (drop (p .tape) tape) left evals′ bytes′ held (plain left evals′ bytes′ h) in
-          (rw (g, x, y, z), rw (g, ← x, e .1, e .2), rw (g, ← x, e .1) sound)
+  module _ (t : State) (evals bytes : ℕ) (f : a ≡ St.Finished t evals bytes) where
+    is-finished : next ≡ finished (worldOf t ring′ cells′) evals bytes
+    is-finished = answered-finished here next t evals bytes ring′ cells′ (rw f at ends)
 
-  -- what it took is small
-  pub step-sums : (t : State) (evals bytes : ℕ) → a ≡ St.Finished t evals bytes → (bytes ≤ length (drop (p .tape) tape)) × (evals ≤ 24)
-  step-sums t evals bytes f = go next refl ends
-    where
-      go : (s : StepEnd) → next ≡ s → EndsAs (worldOf (p .state) ring cells) s a ring′ cells′ → (bytes ≤ length (drop (p .tape) tape)) × (evals ≤ 24)
-      go (refused why) h e =
-          let k : St.Refused why (p .state) ≡ St.Finished t evals bytes = sym (e .0) ∙ f in
-          let z : _≡_ {A = ℕ} 0 1 = cc in
-          absurd (omega arith)
-      go (finished left evals′ bytes′) h e =
-          let k : St.Finished (left .state) evals′ bytes′ ≡ St.Finished t evals bytes = sym (e .0) ∙ f in
-          let y : evals′ ≡ evals = cc in
-          let z : bytes′ ≡ bytes = cc in
-          let few = step-few true (worldOf (p .state) ring cells) (drop (p .tape) tape) left evals′ bytes′ (plain left evals′ bytes′ h) in
-          (omega (arith, few .1), omega (arith, few .2))
+    as-next : nextStep p ring cells tape ≡ finished (worldOf t ring′ cells′) evals bytes
+    as-next = plain (worldOf t ring′ cells′) evals bytes is-finished
+
+    pub step-on : (r : Progress) → r ≡ stepped p t evals bytes → LastHeld (p .state .front) → Tried p here next r ring′ cells′
+    step-on r g held =
+        let sound = step-sound true here (drop (p .tape) tape) (worldOf t ring′ cells′) evals bytes held as-next in
+        (rw (g, is-finished), rw (g, is-finished), rw g sound)
+
+    -- what it took is small
+    pub step-sums : (bytes ≤ length (drop (p .tape) tape)) × (evals ≤ 24)
+    step-sums =
+        let few = step-few true here (drop (p .tape) tape) (worldOf t ring′ cells′) evals bytes as-next in
+        (omega (arith, few .1), omega (arith, few .2))
 
 -- the ending of an empty queue, by what is seen of given-up cells
 seen-abandoned : (p : Chosen) (cells : List ℕ) → leb (pixelCount p) (length cells) ≡ true

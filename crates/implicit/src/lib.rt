@@ -1,4 +1,4 @@
-// The refinement of implicit graphs: setup, children, step, run, picture, counts and a move of the queue over a record by value, a lent ring and lent cells.
+// The refinement of implicit graphs: setup, children, step, run, one step of a run, picture, counts and a move of the queue over a record by value, a lent ring and lent cells.
 // Document 01, "Picture and step" and "Numbers of refusal"; from the Rust's graph/implicit.rs. Every entry takes all numbers and buffers, and refuses by number.
 mod commit;
 mod deciding;
@@ -34,6 +34,7 @@ pub use state::State;
 pub use state::StepAnswer;
 pub use state::Tally;
 pub use stepping::step;
+pub use stepping::tape_step;
 pub use tiled::fill_table;
 pub use tiled::setup_with_table;
 pub use tiled::step_with_table;

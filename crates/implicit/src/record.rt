@@ -1,12 +1,16 @@
 // The record's own tests, and what it says of the pixels and of the queue.
 // Document 01, "Numbers of refusal", "Record damage"; the Rust's state is private and has no such tests.
 ghost use mathlib.Core.Path.{_≡_};
+ghost use Rattle.interval.specs.Bounds.{legalInterval};
 ghost use Rattle.implicit.specs.Record.{pixelCount, soundLast, soundCounts, soundRing, soundUse, soundRecord, queueEmpty, putLast};
 use crate::state::State;
 use coordinate::INDEX_LIMIT;
 use decide::Chosen;
 use decide::is_legal_chosen;
+use interval::Interval;
+use interval::is_same;
 use queue::Last;
+use queue::whole_line;
 
 // Whether a record is not damaged, for a ring of so many bytes.
 pub(crate) fn is_sound(len: usize, s: State) -> bool
@@ -44,10 +48,20 @@ fn is_sound_last(l: Last) -> bool
 {
     (l.x < INDEX_LIMIT)
         & (l.y < INDEX_LIMIT)
-        & interval::is_legal(l.m, true)
-        & interval::is_legal(l.n, true)
-        & interval::is_legal(l.theta, true)
-        & interval::is_legal(l.t, false)
+        & is_legal_kept(l.m, true)
+        & is_legal_kept(l.n, true)
+        & is_legal_kept(l.theta, true)
+        & is_legal_kept(l.t, false)
+}
+
+// Whether a remembered interval is legal; that of a parameter that is not in use, the whole line, is seen at once.
+fn is_legal_kept(x: Interval, integer: bool) -> bool
+    ensures { λ r. ⌜ r ≡ legalInterval x integer ⌝ }
+{
+    if is_same(x, whole_line()) {
+        return true;
+    }
+    interval::is_legal(x, integer)
 }
 
 // How many pixels a picture has.

@@ -1,5 +1,6 @@
-// The step: take, decide, check the room, commit. From the Rust's `refine_impl`. All refusals are known before `commit`, the only writer, is called. The
-// three parts are called from both kinds of step, so that each has its stack to itself.
+// The step: take, decide, check the room, commit. From the Rust's `refine_impl`. All refusals are known before `commit`, the only writer, is called.
+// The parts have their stack to themselves, since every kind of step calls them. Each kind has one caller and is compiled into it; with a second caller it would
+// not be, and the first would take 1,072 bytes of stack more.
 ghost use mathlib.Core.Path.{_≡_};
 ghost use Prim.Native.Nat.{_^_, _≤_};
 ghost use lib.ListN.{length};
@@ -23,7 +24,8 @@ use queue::remember;
 
 // One step, with a verdict for each child of the front block.
 pub fn step(s: State, ring: &mut [u8], cells: &mut [u64], verdicts: &[u8]) -> StepAnswer
-    ensures { λ r. ⌜ EndsAs (worldOf s (now (ring .entry)) (now (cells .entry))) (stepOf (worldOf s (now (ring .entry)) (now (cells .entry))) (now (verdicts .entry))) r (now (ring .exit)) (now (cells .exit)) ⌝ }
+    ensures { λ r. ⌜ EndsAs (worldOf s (now (ring .entry)) (now (cells .entry))) (stepOf (worldOf s (now (ring .entry)) (now (cells .entry)))
+        (now (verdicts .entry))) r (now (ring .exit)) (now (cells .exit)) ⌝ }
 {
     let p = s.chosen;
     let front = s.front;
@@ -50,10 +52,41 @@ pub fn step(s: State, ring: &mut [u8], cells: &mut [u64], verdicts: &[u8]) -> St
     }
 }
 
-// One step of a run: verdicts beyond those that it takes stay for the next. What the step before left is sound if its use is, so that only this is tested.
+// One step of a run, for callers that take a run's steps one by one: verdicts beyond those that it takes stay for the next.
+pub fn tape_step(s: State, ring: &mut [u8], cells: &mut [u64], tape: &[u8]) -> StepAnswer
+    ensures { λ r. ⌜ EndsAs (worldOf s (now (ring .entry)) (now (cells .entry))) (tapeStepOf (worldOf s (now (ring .entry)) (now (cells .entry))) (now (tape .entry)))
+        r (now (ring .exit)) (now (cells .exit)) ⌝ }
+{
+    let p = s.chosen;
+    let front = s.front;
+    let back = s.back;
+    let sound = is_sound(ring.len(), s);
+    let d = decide(
+        p,
+        sound,
+        s.taken < s.queued,
+        ring,
+        s.head,
+        s.used,
+        front,
+        cells,
+        tape,
+        true,
+    );
+    match check_room(p, s.queued, back, ring.len(), d) {
+        Check::Passed => {
+            let left = commit(p, s.taken, s.queued, back, ring, cells, d);
+            finish(s, d, left)
+        }
+        Check::Refused(why) => StepAnswer::Refused { why, state: s },
+    }
+}
+
+// The same inside a run: what the step before left is sound if its use is, so that only this is tested.
 pub(crate) fn step_on_tape(s: State, ring: &mut [u8], cells: &mut [u64], tape: &[u8]) -> StepAnswer
     requires { ⌜ SoundByUse (length (now ring)) s ⌝ }
-    ensures { λ r. ⌜ EndsAs (worldOf s (now (ring .entry)) (now (cells .entry))) (tapeStepOf (worldOf s (now (ring .entry)) (now (cells .entry))) (now (tape .entry))) r (now (ring .exit)) (now (cells .exit)) ⌝ }
+    ensures { λ r. ⌜ EndsAs (worldOf s (now (ring .entry)) (now (cells .entry))) (tapeStepOf (worldOf s (now (ring .entry)) (now (cells .entry)))
+        (now (tape .entry))) r (now (ring .exit)) (now (cells .exit)) ⌝ }
 {
     let p = s.chosen;
     let front = s.front;
@@ -80,8 +113,7 @@ pub(crate) fn step_on_tape(s: State, ring: &mut [u8], cells: &mut [u64], tape: &
     }
 }
 
-// One step, single or on a tape, of a record that is known to be sound or not: for the calls that take a table. A third time the same three parts, so that
-// the two above stay compiled into their callers.
+// One step, single or on a tape, of a record that is known to be sound or not: for the calls that take a table.
 pub(crate) fn step_by(
     s: State,
     sound: bool,

@@ -22,13 +22,14 @@ use Rattle.implicit.specs.declared.state.Ending.{Ending}
 use Rattle.implicit.specs.declared.state.RunAnswer.{RunAnswer}
 use Rattle.implicit.specs.declared.state.RunAnswer.the-variants as A
 use Rattle.implicit.specs.Setup.{cleared, setupAnswer, ringBegun, cellsBegun}
-use Rattle.implicit.specs.Step.{World, worldOf, StepEnd, refused, finished, stepOf, EndsAs}
+use Rattle.implicit.specs.Step.{World, worldOf, finished, stepOf, EndsAs}
 use Rattle.implicit.specs.Run.{RunResult, notRun, hasRun, runOf, RunsAs}
 use Rattle.implicit.specs.declared.state.MoveAnswer.{MoveAnswer}
 use Rattle.implicit.specs.declared.state.MoveAnswer.the-variants as M
 use Rattle.implicit.specs.Record.{refusedUnless, soundRecord}
 use Rattle.implicit.specs.Move.{movedWorld, notMoved, moved, moveOf, moveAnswer, otherAfter, MovesAs}
 use Rattle.implicit.specs.Answers.{setupNumber, setupState}
+use Rattle.implicit.proofs.StepAnswered.{answered-finished, answered-refused}
 use Rattle.promises.specs.Steps.{BegunAs, MovesTo, to-ring, Steps, then-step, verdictsOf, evaluationsOf}
 use Rattle.promises.specs.Calls.{askedBy, ranTo}
 
@@ -45,25 +46,11 @@ setup-begins chosen ranges ring cells ring′ cells′ r held answer ring-left c
 
 -- STEP
 
-pub ends-finished : (w : World) (e : StepEnd) (s : State) (evals bytes : ℕ) (ring cells : List ℕ) → EndsAs w e (T.Finished s evals bytes) ring cells
-    → e ≡ finished (worldOf s ring cells) evals bytes
-ends-finished w (refused why) s evals bytes ring cells h = let f = h .0 in let z : _≡_ {A = ℕ} 0 1 = cc in absurd (omega arith)
-ends-finished w (finished left m n) s evals bytes ring cells h =
-    let f = h .0 in
-    let i : s ≡ left .state = cc in
-    let j : evals ≡ m = cc in
-    let k : bytes ≡ n = cc in
-    rw (i, j, k, h .1, h .2) refl
-
-pub ends-refused : (w : World) (e : StepEnd) (why : Refusal) (s : State) (ring cells : List ℕ) → EndsAs w e (T.Refused why s) ring cells → worldOf s ring cells ≡ w
-ends-refused w (refused reason) why s ring cells h = let f = h .0 in let i : s ≡ w .state = cc in rw (i, h .1, h .2) refl
-ends-refused w (finished left m n) why s ring cells h = let f = h .0 in let z : _≡_ {A = ℕ} 0 1 = cc in absurd (omega arith)
-
 module _ (s : State) (ring cells verdicts ring′ cells′ : List ℕ) (r : StepAnswer)
     (ensures : EndsAs (worldOf s ring cells) (stepOf (worldOf s ring cells) verdicts) r ring′ cells′) where
   pub step-finishes : (s′ : State) (evals bytes : ℕ) → r ≡ T.Finished s′ evals bytes
       → stepOf (worldOf s ring cells) verdicts ≡ finished (worldOf s′ ring′ cells′) evals bytes
-  step-finishes s′ evals bytes e = ends-finished (worldOf s ring cells) (stepOf (worldOf s ring cells) verdicts) s′ evals bytes ring′ cells′ (rw e at ensures)
+  step-finishes s′ evals bytes e = answered-finished (worldOf s ring cells) (stepOf (worldOf s ring cells) verdicts) s′ evals bytes ring′ cells′ (rw e at ensures)
 
   pub step-counts : (s′ : State) (evals bytes : ℕ) → r ≡ T.Finished s′ evals bytes → {n : ℕ} {w₀ : World} (c : Steps n w₀ (worldOf s ring cells))
       → (d : Steps (suc n) w₀ (worldOf s′ ring′ cells′)) × (verdictsOf d ≡ verdictsOf c ++ verdicts) × (evaluationsOf d ≡ evaluationsOf c + evals)
@@ -71,7 +58,7 @@ module _ (s : State) (ring cells verdicts ring′ cells′ : List ℕ) (r : Step
   step-counts s′ evals bytes e c = (then-step c verdicts evals bytes (step-finishes s′ evals bytes e), refl, refl)
 
   pub step-keeps-all : (why : Refusal) (s′ : State) → r ≡ T.Refused why s′ → worldOf s′ ring′ cells′ ≡ worldOf s ring cells
-  step-keeps-all why s′ e = ends-refused (worldOf s ring cells) (stepOf (worldOf s ring cells) verdicts) why s′ ring′ cells′ (rw e at ensures)
+  step-keeps-all why s′ e = answered-refused (worldOf s ring cells) (stepOf (worldOf s ring cells) verdicts) why s′ ring′ cells′ (rw e at ensures) .1
 
 -- RUN
 

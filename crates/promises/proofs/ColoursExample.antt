@@ -47,10 +47,10 @@ use Rattle.promises.proofs.Claims.{plane, corner, corner-given}
 use Rattle.promises.proofs.Promises.{white-means-no, true-means-yes, decided-in-time}
 
 -- at most half a pixel from the left edge
-abbrev Near : Mix exactly → Type 0
+abbrev pub Near : Mix exactly → Type 0
 Near a = 2 * (a .x .num) ≤ a .x .den
 
-abbrev asked : Question Block (Pixel (sheet .chosen))
+abbrev pub asked : Question Block (Pixel (sheet .chosen))
 asked = questionOf exactly (sheet .chosen) (sheet .ranges) Near
 
 -- the two children, at the pixels' own level
@@ -76,7 +76,7 @@ unfolding judgementsTaking judgementsOf judgementsWith becomes saidBy queuedBloc
 judgements-are = refl
 
 -- the right one begins one pixel from the edge, so it holds no point that near
-right-none : NoneIn (coversIn (sheet .chosen)) asked (child 1)
+pub right-none : NoneIn (coversIn (sheet .chosen)) asked (child 1)
 unfolding NoneIn Holds LiesBetween AtMost exactEdge
 right-none a q given lies holds near = let l = holds .0 .0 .0 .0 in omega (arith, l, near, a .x .den-pos)
 

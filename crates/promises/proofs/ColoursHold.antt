@@ -81,7 +81,7 @@ module _ (M : Measures) (Solves : Mix M → Type 0) (a : Asked) {w₀ : World} (
   abbrev Q : Question Block (Pixel p)
   Q = questionOf M p (a .ranges) Solves
 
-  holds-all : HoldsAll (coversIn p) Q (snapshotOf p w₀)
+  pub holds-all : HoldsAll (coversIn p) Q (snapshotOf p w₀)
   unfolding HoldsAll
   holds-all x q given at =
       let b = begun-passed a w₀ z in

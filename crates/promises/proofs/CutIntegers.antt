@@ -19,6 +19,7 @@ use Rattle.theory.proofs.IntegerLaws.{compare, equal-or-less, less-trans, less-
 use Rattle.base.specs.Lists.{Some}
 use Rattle.base.proofs.ListLaws.{some-left, some-right}
 use Rattle.theory.proofs.Theorems.{later-integer-loses-nothing}
+use Rattle.theory.proofs.ListLaws.{some-of-map}
 use Rattle.interval.specs.declared.Interval.{Interval}
 use Rattle.interval.specs.Bounds.{InFormat, legalInterval}
 use Rattle.interval.specs.Kinds.{midpointOf, cutPointOf}
@@ -31,7 +32,7 @@ use Rattle.interval.proofs.Middles.{middle-half, middle-whole, middle-rounded}
 use Rattle.interval.proofs.FirstCut.{first-whole, first-up-to, first-from, first-one, first-two, first-three}
 use Rattle.interval.proofs.LaterCut.{three-proper, later-integer}
 use Rattle.promises.specs.Mixes.{wholeOf, endBy, integers}
-use Rattle.promises.proofs.CutSpans.{some-of-map, finite-end, span-put, three-spans}
+use Rattle.promises.proofs.CutSpans.{finite-end, span-put, three-spans}
 use Rattle.promises.proofs.CutWholes.{whole-put, Whole, whole-is, whole-lt, whole-le, width-ends, whole-width}
 
 -- ---- what a piece holds

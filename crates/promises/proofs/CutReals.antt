@@ -8,6 +8,7 @@ use Rattle.base.proofs.Test.{by-test}
 use Rattle.base.specs.Lists.{Some}
 use Rattle.theory.specs.Cuts.{InSpan}
 use Rattle.theory.proofs.Theorems.{later-real-loses-nothing}
+use Rattle.theory.proofs.ListLaws.{some-of-map}
 use Rattle.interval.specs.declared.Interval.{Interval}
 use Rattle.interval.specs.Bounds.{InFormat, legalInterval, zeroAs}
 use Rattle.interval.specs.Kinds.{cutPointOf}
@@ -16,7 +17,7 @@ use Rattle.interval.proofs.CutPoint.{cut-good}
 use Rattle.interval.proofs.FirstCut.{three-by}
 use Rattle.interval.proofs.LaterCut.{later-real}
 use Rattle.promises.specs.Mixes.{spanBy}
-use Rattle.promises.proofs.CutSpans.{some-of-map, span-put, three-spans}
+use Rattle.promises.proofs.CutSpans.{span-put, three-spans}
 
 module _ {N : Type 0} (Le : N → N → Type 0) (f : Float → N) (same : (t : Bool) (x : Float) → f (zeroAs t x) ≡ f x) (v : Interval) (legal : legalInterval v false ≡ true) where
   -- the middle piece of the first cut is the whole

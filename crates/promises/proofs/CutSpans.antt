@@ -1,29 +1,18 @@
 -- What intervals of f64s stand for: an interval put is the same one, a cut at c has the spans of a cut at the number that c is, and whole bounds are in
 -- the order of their integers. Assumes nothing.
 use mathlib.Core.Path.{_≡_, refl, ap, ap₂, _∙_}
-use mathlib.Core.Logic.{inl, inr}
 use mathlib.Core.Bool.{Bool, true, false}
-use mathlib.Core.List.{List, [], _∷_, map}
+use mathlib.Core.List.{map}
 use Prim.Native.Nat.{zero, suc}
 use lib.Dec.{T}
 use lib.Ieee.{Float, nan, inf, fin}
 use lib.Ieee.Scale.{finite}
-use Rattle.base.specs.Lists.{Some}
 use Rattle.theory.specs.Cuts.{End, span, laterPieces}
 use Rattle.theory.specs.Cuts as Cut
 use Rattle.interval.specs.declared.Interval.{Interval}
 use Rattle.interval.specs.Bounds.{zeroAs, putInterval}
 use Rattle.interval.specs.Cuts.{pairOf, spanOf, threeAt}
 use Rattle.promises.specs.Mixes.{endBy, spanBy}
-
--- ---- lists
-
--- of the pieces' spans, one of the pieces
-pub some-of-map : {A B : Type 0} (P : B → Type 0) (f : A → B) (l : List A) → Some P (map f l) → Some (λ a. P (f a)) l
-unfolding Some
-some-of-map P f [] h = h
-some-of-map P f (a ∷ l) (inl h) = inl h
-some-of-map P f (a ∷ l) (inr h) = inr (some-of-map P f l h)
 
 -- ---- spans
 

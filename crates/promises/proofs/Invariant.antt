@@ -56,6 +56,13 @@ cells-whole p b l h k =
     not-damaged isDamaged (coveredCells p b l)
     (pixels-every (b .x) (b .y) (p .width) (p .height) l h (λ c. not (isDamaged c)) (λ px py i j e. ap not (k px py i j)))
 
+-- its bytes lie in the ring
+pub keeps-fits : (w : World) (q : List Block) → Keeps w q → fitsRing (length (w .ring)) (w .state .head) (w .state .used) ≡ true
+keeps-fits w q k =
+    let f : SoundRecord (length (w .ring)) (w .state) = sound-record (length (w .ring)) (w .state) (k .sound-record) in
+    and-both (ltb (w .state .head) (length (w .ring))) (leb (w .state .used) (length (w .ring)))
+    (lt-ltb (w .state .head) (length (w .ring)) (f .head)) (le-leb (w .state .used) (length (w .ring)) (f .used))
+
 -- ON A WAITING BLOCK
 
 module _ (w : World) (c : Block) (rest : List Block) (k : Keeps w (c ∷ rest)) where
@@ -68,14 +75,8 @@ module _ (w : World) (c : Block) (rest : List Block) (k : Keeps w (c ∷ rest)) 
   abbrev pub used′ : ℕ
   used′ = w .state .used - length (encode (w .state .chosen .set) (w .state .front) c)
 
-  record-facts : SoundRecord (length (w .ring)) (w .state)
-  record-facts = sound-record (length (w .ring)) (w .state) (k .sound-record)
-
   pub fits : fitsRing (length (w .ring)) (w .state .head) (w .state .used) ≡ true
-  fits =
-      let f = record-facts in
-      and-both (ltb (w .state .head) (length (w .ring))) (leb (w .state .used) (length (w .ring)))
-      (lt-ltb (w .state .head) (length (w .ring)) (f .head)) (le-leb (w .state .used) (length (w .ring)) (f .used))
+  fits = keeps-fits w (c ∷ rest) k
 
   taking : (frontOf (w .state) (w .ring) ≡ T.Front c (remembered c) head′ used′) × (size ≤ w .state .used)
       × BytesHold (w .state .chosen .set) (remembered c) (w .state .back) (content (w .ring) head′ used′) rest

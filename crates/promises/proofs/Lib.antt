@@ -1,6 +1,8 @@
--- What is promised of the engine. Promises is the reader's entry, and TablePromises that of the tile counts: each promise under its sentence.
+-- What is promised of the engine. Promises is the reader's entry, TablePromises that of the tile counts, and WhyPromises that of the reasons: each promise under
+-- its sentence.
 pub mod Promises
 pub mod TablePromises
+pub mod WhyPromises
 -- the words of the engine and those of `theory`
 pub mod Covering
 pub mod Snapshots
@@ -48,6 +50,14 @@ pub mod ByBoxes
 pub mod ColoursHold
 pub mod Greys
 pub mod Screen
+-- why a pixel reads what it reads
+pub mod WhyLinked
+pub mod WhyGivenUp
+pub mod WhyPoints
+pub mod WhyHolds
+pub mod WhyAlike
+pub mod Explains
+pub mod ExplainAnswered
 -- the table of tile counts
 pub mod TableSteps
 pub mod TableKept
@@ -60,9 +70,12 @@ pub mod ClaimsBoxes
 pub mod ClaimsRoom
 pub mod ClaimsShare
 pub mod ClaimsTables
+pub mod ClaimsWhy
 pub mod ExampleSteps
 pub mod ExampleRoom
 pub mod Example
 pub mod RoomExample
 pub mod ColoursExample
-pub mod BoxesExample
+pub mod ExampleBoxes
+pub mod WhyExample
+pub mod ExplainExample

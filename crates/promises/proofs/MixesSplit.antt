@@ -34,11 +34,11 @@ use Rattle.theory.specs.Shapes.{quarters}
 use Rattle.base.specs.Lists.{Some, Every}
 use Rattle.base.proofs.ListLaws.{some-mono, some-map, every-also}
 use Rattle.theory.proofs.Theorems.{quarters-lose-nothing}
+use Rattle.theory.proofs.ListLaws.{some-of-map}
 use Rattle.promises.specs.Chart.{Pixel, placeOfBlock, coversIn}
 use Rattle.promises.specs.Mixes.{Measures, Mix, HeldIn, HeldBy, questionOf}
 use Rattle.promises.proofs.JudgementPlaces.{children-places}
 use Rattle.promises.proofs.Judgements.{cuttingOf, same-covers-in}
-use Rattle.promises.proofs.CutSpans.{some-of-map}
 use Rattle.promises.proofs.CutReals.{later-real-holds}
 use Rattle.promises.proofs.CutIntegers.{later-integer-holds}
 

@@ -86,7 +86,8 @@ not-all-true p b l even enough e =
         let py = p .height - 1 - i / p .width in
         let q : Pixel p = record { x = px; y = py; x-in = z .0; y-in = z .1 } in (
           q,
-          ≡→T (covers-as p b q even ∙ sym (rectangle-covers (b .x) (b .y) (p .width) (p .height) px py (z .0) (z .1)) ∙ ap (holdsCell (p .width) (rectangleOf (b .x) (b .y) (p .width) (p .height))) (z .2) ∙ held),
+          ≡→T (covers-as p b q even ∙ sym (rectangle-covers (b .x) (b .y) (p .width) (p .height) px py (z .0) (z .1))
+              ∙ ap (holdsCell (p .width) (rectangleOf (b .x) (b .y) (p .width) (p .height))) (z .2) ∙ held),
           not-true-as (pixelCell (p .width) (p .height) px py l) (ap (λ (n : ℕ). isMarked (getD l n (Named 0))) (z .2) ∙ fails),
         )
 
@@ -120,7 +121,7 @@ given-child P turn (c ∷ cs) (o ∷ os) h g = go (isIncomplete o) (turn c) refl
     go true Tu.Nowhere e ih g = (c, h .0, e)
     go false u e ih g = ih g
 
-marks-give-none : (cs : List Block) (os : List Outcome) (es : List (Event Block)) → anyGivesUp (markEvents cs os ++ es) ≡ anyGivesUp es
+pub marks-give-none : (cs : List Block) (os : List Outcome) (es : List (Event Block)) → anyGivesUp (markEvents cs os ++ es) ≡ anyGivesUp es
 unfolding markEvents anyGivesUp
 marks-give-none [] os es = refl
 marks-give-none (c ∷ cs) [] es = refl

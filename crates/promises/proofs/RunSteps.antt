@@ -1,12 +1,14 @@
--- A run's steps are steps: what it leaves is what its finished steps leave; and where it stops, a step on what it leaves refuses. Assumes nothing.
+-- A run's steps are steps: what it leaves is what its finished steps leave; where it stops, a step on what it leaves refuses; and else they are as
+-- many as were asked for, or the queue is empty. Assumes nothing.
 use mathlib.Core.Path.{_≡_, refl, sym, ap, _∙_}
+use mathlib.Core.Logic.{_⊎_, inl, inr}
 use mathlib.Core.Bool.{Bool, true, false, cond}
 use mathlib.Core.List.{List, _++_, append-nil, append-assoc}
-use Prim.Native.Nat.{ℕ, zero, suc, _+_, _≤_}
+use Prim.Native.Nat.{ℕ, zero, suc, _+_, _≤_, _<_}
 use native.Mathlib.Omega.{arith}
 use lib.Dec.{leb}
 use lib.ListN.{length, take, drop, length-drop}
-use lib.Seq.{take-all, take-add, length-take-le}
+use lib.Seq.{take-all, take-add, drop-drop, length-take-le}
 use borrow.Author.Tests.{leb-true, le-leb, eq-eqb}
 use Rattle.base.proofs.Test.{cases, by-test}
 use Rattle.refusal.specs.declared.Refusal.{Refusal}
@@ -47,7 +49,8 @@ module _ (tape : Bool) (w : World) (vs : List ℕ) (left : World) (evals bytes :
       → stepWith tape′ w vs′ ≡ judged w (g .block) (g .last) (g .head) (g .used) (take (length (childrenOf (w .state .chosen) (g .block))) vs′)
   unfolding stepWith afterTaking unless
   judged-alike tape′ vs′ e =
-      rw (g .sound-record, le-leb (pixelCount (w .state .chosen)) (length (w .cells)) (g .cells-enough), g .not-empty, g .front-read, g .undamaged-block, e)
+      let enough = le-leb (pixelCount (w .state .chosen)) (length (w .cells)) (g .cells-enough) in
+      rw (g .sound-record, enough, g .not-empty, g .front-read, g .undamaged-block, e)
 
 pub tape-step : (w : World) (tape : List ℕ) (left : World) (evals bytes : ℕ) → tapeStepOf w tape ≡ finished left evals bytes
     → stepOf w (take bytes tape) ≡ finished left evals bytes
@@ -71,7 +74,8 @@ record Took (w : World) (tape : List ℕ) (steps evals bytes : ℕ) (left : Worl
   within : bytes ≤ length tape
   alone : NoMove all
 
-finished-steps : {w left : World} {tape : List ℕ} {steps evals bytes : ℕ} → Finished w tape steps evals bytes left → Took w tape steps evals bytes left
+finished-steps : {w left : World} {tape : List ℕ} {steps evals bytes : ℕ} → Finished w tape steps evals bytes left
+    → Took w tape steps evals bytes left
 unfolding verdictsOf evaluationsOf NoMove
 finished-steps none = record { all = no-steps; verdicts = refl; cost = refl; within = omega arith; alone = tt }
 finished-steps (then {w = w} {next = next} {tape = tape} {evals = evals} {bytes = bytes} {steps = steps} {bytes′ = bytes′} e f) =
@@ -91,8 +95,8 @@ finished-steps (then {w = w} {next = next} {tape = tape} {evals = evals} {bytes 
 -- a run's end is what steps under the tape's first bytes leave, with no move among them
 abbrev pub EndsBySteps : World → List ℕ → RunEnd → Type 0
 EndsBySteps w tape e =
-    (r : Steps (e .steps) w (e .world)) × (verdictsOf r ≡ take (e .tape) tape) × (length (verdictsOf r) ≡ e .tape) × (evaluationsOf r ≡ e .evaluations)
-    × NoMove r
+    (r : Steps (e .steps) w (e .world)) × (verdictsOf r ≡ take (e .tape) tape) × (length (verdictsOf r) ≡ e .tape)
+    × (evaluationsOf r ≡ e .evaluations) × NoMove r
 
 run-from-steps : (budget : ℕ) (w : World) (tape : List ℕ) → EndsBySteps w tape (runFrom budget w tape)
 run-from-steps budget w tape =
@@ -114,9 +118,9 @@ has-run budget w tape e h =
 pub run-steps : (budget : ℕ) (w : World) (tape : List ℕ) (e : RunEnd) → runOf budget w tape ≡ hasRun e → EndsBySteps w tape e
 run-steps budget w tape e h = rw (has-run budget w tape e h) (run-from-steps budget w tape)
 
--- where it stops, a step refuses
-abbrev StopsBy : Refusal → RunEnd → Type 0
-StopsBy why e = e .ending ≡ E.Stop why → (rest : List ℕ) × (tapeStepOf (e .world) rest ≡ refused why)
+-- where it stops, a step on the rest of the tape refuses
+abbrev pub StopsBy : Refusal → List ℕ → RunEnd → Type 0
+StopsBy why tape e = e .ending ≡ E.Stop why → tapeStepOf (e .world) (drop (e .tape) tape) ≡ refused why
 
 pub empty-stops : (why : Refusal) (t : Bool) {P : Type 0} → cond t E.Limit E.Done ≡ E.Stop why → P
 empty-stops why true e = let z : _≡_ {A = ℕ} 0 1 = cc in absurd (omega arith)
@@ -126,20 +130,50 @@ pub more-stops : (why : Refusal) {P : Type 0} → E.More ≡ E.Stop why → P
 more-stops why e = let z : _≡_ {A = ℕ} 0 1 = cc in absurd (omega arith)
 
 gone-stops : (why : Refusal) (left : ℕ) (w : World) (tape : List ℕ) (s : StepEnd) → tapeStepOf w tape ≡ s
-    → ((v : World) (n : ℕ) → StopsBy why (runFrom left v (drop n tape))) → StopsBy why (goneOn w s (λ next bytes. runFrom left next (drop bytes tape)))
-gone-stops why left w tape (refused reason) e ih f = let g : reason ≡ why = cc in (tape, e ∙ ap refused g)
-gone-stops why left w tape (finished next evals bytes) e ih f = ih next bytes f
+    → ((v : World) (n : ℕ) → StopsBy why (drop n tape) (runFrom left v (drop n tape)))
+    → StopsBy why tape (goneOn w s (λ next bytes. runFrom left next (drop bytes tape)))
+gone-stops why left w tape (refused reason) e ih f = let g : reason ≡ why = cc in e ∙ ap refused g
+gone-stops why left w tape (finished next evals bytes) e ih f =
+    let r = runFrom left next (drop bytes tape) in
+    ap (tapeStepOf (r .world)) (sym (drop-drop (r .tape) bytes tape)) ∙ ih next bytes f
 
-stops : (why : Refusal) (budget : ℕ) (w : World) (tape : List ℕ) → StopsBy why (runFrom budget w tape)
+pub stops : (why : Refusal) (budget : ℕ) (w : World) (tape : List ℕ) → StopsBy why tape (runFrom budget w tape)
 unfolding runFrom
 stops why zero w tape =
-    by-test (StopsBy why) (queueEmpty (w .state)) (endedAs w (emptyEnding (w .state .chosen) (w .cells))) (endedAs w E.More)
+    by-test (StopsBy why tape) (queueEmpty (w .state)) (endedAs w (emptyEnding (w .state .chosen) (w .cells))) (endedAs w E.More)
     (λ e f. empty-stops why (someOf isGivenUp (pixelCells (w .state .chosen) (w .cells))) f) (λ e f. more-stops why f)
 stops why (suc left) w tape =
-    by-test (StopsBy why) (queueEmpty (w .state)) (endedAs w (emptyEnding (w .state .chosen) (w .cells))) (goneOn w (tapeStepOf w tape) (λ next bytes. runFrom left next (drop bytes tape)))
+    by-test (StopsBy why tape) (queueEmpty (w .state)) (endedAs w (emptyEnding (w .state .chosen) (w .cells)))
+    (goneOn w (tapeStepOf w tape) (λ next bytes. runFrom left next (drop bytes tape)))
     (λ e f. empty-stops why (someOf isGivenUp (pixelCells (w .state .chosen) (w .cells))) f)
     (λ e. gone-stops why left w tape (tapeStepOf w tape) refl (λ v n. stops why left v (drop n tape)))
 
 pub run-stops : (budget : ℕ) (w : World) (tape : List ℕ) (e : RunEnd) (why : Refusal) → runOf budget w tape ≡ hasRun e → e .ending ≡ E.Stop why
     → (rest : List ℕ) × (tapeStepOf (e .world) rest ≡ refused why)
-run-stops budget w tape e why h = rw (has-run budget w tape e h) (stops why budget w tape)
+run-stops budget w tape e why h =
+    rw (has-run budget w tape e h) (λ f. (drop (runFrom budget w tape .tape) tape, stops why budget w tape f))
+
+-- where none refuses, it makes all the steps of its budget, unless the queue empties sooner
+abbrev pub EndsAsked : ℕ → RunEnd → Type 0
+EndsAsked budget e =
+    ((why : Refusal) → ¬ (e .ending ≡ E.Stop why))
+    → (e .steps ≡ budget) ⊎ ((e .steps < budget) × (queueEmpty (e .world .state) ≡ true))
+
+gone-asked : (left : ℕ) (w : World) (tape : List ℕ) (s : StepEnd) → ((v : World) (n : ℕ) → EndsAsked left (runFrom left v (drop n tape)))
+    → EndsAsked (suc left) (goneOn w s (λ next bytes. runFrom left next (drop bytes tape)))
+gone-asked left w tape (refused why) ih k = absurd (k why refl)
+gone-asked left w tape (finished next evals bytes) ih k = one-more (ih next bytes k)
+  where
+    one-more : {n : ℕ} {P : Type 0} → (n ≡ left) ⊎ ((n < left) × P) → (suc n ≡ suc left) ⊎ ((suc n < suc left) × P)
+    one-more (inl e) = inl (ap suc e)
+    one-more (inr (l, x)) = inr (omega (arith, l), x)
+
+pub ends-asked : (budget : ℕ) (w : World) (tape : List ℕ) → EndsAsked budget (runFrom budget w tape)
+unfolding runFrom
+ends-asked zero w tape =
+    by-test (EndsAsked zero) (queueEmpty (w .state)) (endedAs w (emptyEnding (w .state .chosen) (w .cells))) (endedAs w E.More)
+    (λ e k. inl refl) (λ e k. inl refl)
+ends-asked (suc left) w tape =
+    by-test (EndsAsked (suc left)) (queueEmpty (w .state)) (endedAs w (emptyEnding (w .state .chosen) (w .cells)))
+    (goneOn w (tapeStepOf w tape) (λ next bytes. runFrom left next (drop bytes tape)))
+    (λ e k. inr (omega arith, e)) (λ e. gone-asked left w tape (tapeStepOf w tape) (λ v n. ends-asked left v (drop n tape)))

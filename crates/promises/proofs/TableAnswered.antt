@@ -33,7 +33,8 @@ use Rattle.implicit.specs.Answers.{setupNumber, setupState}
 use Rattle.implicit.proofs.ViewLaws.{given-up-uncertain}
 use Rattle.promises.specs.Calls.{askedBy, ranTo}
 use Rattle.promises.specs.Tables.{TiledBegunAs, TiledSteps, then-tiled-step, EqualsRecount}
-use Rattle.promises.proofs.Answered.{ends-finished, ends-refused, runs-ended}
+use Rattle.promises.proofs.Answered.{runs-ended}
+use Rattle.implicit.proofs.StepAnswered.{answered-finished, answered-refused}
 use Rattle.promises.proofs.TableSteps.{within-tiles}
 use Rattle.promises.proofs.TableRuns.{run-tiled}
 
@@ -65,14 +66,14 @@ module _ (s : State) (ring cells table verdicts ring′ cells′ table′ : List
   tiled-step-counts s′ evals bytes e c =
       let w = worldOf s ring cells in
       let ends : tiledStepOf (length table) w verdicts ≡ finished (worldOf s′ ring′ cells′) evals bytes =
-      ends-finished w (tiledStepOf (length table) w verdicts) s′ evals bytes ring′ cells′ (rw e at (ensures .0)) in
+      answered-finished w (tiledStepOf (length table) w verdicts) s′ evals bytes ring′ cells′ (rw e at (ensures .0)) in
       then-tiled-step c verdicts evals bytes ends (ensures .1 ∙ ap (tableAfter w table) ends)
 
   pub tiled-step-keeps : (why : Refusal) (s′ : State) → r ≡ T.Refused why s′ → (worldOf s′ ring′ cells′ ≡ worldOf s ring cells) × (table′ ≡ table)
   tiled-step-keeps why s′ e =
       let w = worldOf s ring cells in
       let step = tiledStepOf (length table) w verdicts in
-      (ends-refused w step why s′ ring′ cells′ (rw e at (ensures .0)), refused-table w table step why s′ ring′ cells′ table′ (rw e at ensures))
+      (answered-refused w step why s′ ring′ cells′ (rw e at (ensures .0)) .1, refused-table w table step why s′ ring′ cells′ table′ (rw e at ensures))
 
 -- RUN
 pub tiled-run-ends : (s : State) (ring cells tape table ring′ cells′ table′ : List ℕ) (budget : ℕ) (r : RunAnswer)

@@ -9,3 +9,4 @@ pub mod Sentences
 pub mod EnoughRoom
 pub mod Alike
 pub mod Tables
+pub mod Why

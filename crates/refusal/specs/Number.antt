@@ -26,6 +26,7 @@ number R.Sheet = 14
 number R.Bounds = 15
 number R.Padding = 16
 number R.Table = 17
+number R.Pixel = 18
 
 -- this refusal, unless the test passes, and then the rest: the refusals of an entry read from the top, in the document's order
 abbrev pub refusedUnless : {A : Type 0} → A → Bool → A → A

@@ -38,6 +38,8 @@ pub enum Refusal {
     Padding,
     // 17: a table of tile counts with fewer than four numbers a tile.
     Table,
+    // 18: a pixel outside the picture.
+    Pixel,
 }
 
 // The number of a refusal.
@@ -62,6 +64,7 @@ pub fn number_of(r: Refusal) -> u8
         Refusal::Bounds => 15,
         Refusal::Padding => 16,
         Refusal::Table => 17,
+        Refusal::Pixel => 18,
     }
 }
 

@@ -12,11 +12,12 @@ use implicit::MoveAnswer;
 use implicit::NeededAnswer;
 use implicit::RunAnswer;
 use implicit::SetupAnswer;
+use implicit::State;
 use implicit::StepAnswer;
 use implicit::Tally;
 use refusal::Refusal;
 
-fn put_refusal(got: &mut [u64], why: Refusal) {
+pub(crate) fn put_refusal(got: &mut [u64], why: Refusal) {
     put(got, 41, refusal::number_of(why) as u64);
 }
 
@@ -81,6 +82,20 @@ fn put_sums(got: &mut [u64], steps: u64, evaluations: u64, tape: u64) {
     put(got, 44, steps);
 }
 
+// What a run left: the record, its sums and its ending.
+pub(crate) fn put_ended(
+    got: &mut [u64],
+    state: State,
+    steps: u64,
+    evaluations: u64,
+    tape: usize,
+    ending: Ending,
+) {
+    put_state(got, state);
+    put_sums(got, steps, evaluations, tape as u64);
+    put_ending(got, ending);
+}
+
 pub(crate) fn put_ran(got: &mut [u64], answer: RunAnswer) {
     match answer {
         RunAnswer::Ended {
@@ -89,11 +104,7 @@ pub(crate) fn put_ran(got: &mut [u64], answer: RunAnswer) {
             evaluations,
             tape,
             ending,
-        } => {
-            put_state(got, state);
-            put_sums(got, steps, evaluations, tape as u64);
-            put_ending(got, ending);
-        }
+        } => put_ended(got, state, steps, evaluations, tape, ending),
         RunAnswer::Refused { why, state } => {
             put_refusal(got, why);
             put_state(got, state);

@@ -12,6 +12,7 @@ use crate::answers::put_needed;
 use crate::answers::put_ran;
 use crate::answers::put_started;
 use crate::answers::put_stepped;
+use crate::explaining::play_explain;
 use crate::record::chosen_at;
 use crate::record::ends_at;
 use crate::record::ranges_at;
@@ -141,7 +142,8 @@ fn play_move(words: &[u64], bytes: &[u8], got: &mut [u64], left: &mut [u8])
     put_moved(got, answer);
 }
 
-// The call of a number: 1 setup, 2 children, 3 step, 4 run, 5 picture, 6 counts, 7 least_ring, 8 enough_ring, 9 move_queue, from 10 on those with a table.
+// The call of a number: 1 setup, 2 children, 3 step, 4 run, 5 picture, 6 counts, 7 least_ring, 8 enough_ring, 9 move_queue, 14 explain; from 10 to 13 those with
+// a table.
 pub(crate) fn play(call: u8, words: &[u64], bytes: &[u8], got: &mut [u64], left: &mut [u8])
     requires { ⌜ WordTable (now words) × ByteTable (now bytes) × WordTable (now got) × ByteTable (now left) ⌝ }
 {
@@ -155,6 +157,7 @@ pub(crate) fn play(call: u8, words: &[u64], bytes: &[u8], got: &mut [u64], left:
         7 => play_least_ring(words, got),
         8 => play_enough_ring(words, got),
         9 => play_move(words, bytes, got, left),
+        14 => play_explain(words, bytes, got, left),
         _ => play_with_table(call, words, bytes, got, left),
     }
 }

@@ -23,6 +23,7 @@ use tally::say;
 
 mod answers;
 mod calls;
+mod explaining;
 mod list;
 mod record;
 mod tables;

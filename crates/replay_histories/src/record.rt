@@ -102,6 +102,21 @@ pub(crate) fn steps_at(w: &[u64]) -> u32
     (w[39] % 4294967296) as u32
 }
 
+// The column of a pixel, and its row from the top.
+pub(crate) fn column_at(w: &[u64]) -> u32
+    requires { ⌜ 109 ≤ length (now w) ⌝ }
+    ensures { λ r. ⌜ r ≡ getD (now (w .entry)) 108 0 % 4294967296 ⌝ }
+{
+    (w[108] % 4294967296) as u32
+}
+
+pub(crate) fn row_at(w: &[u64]) -> u32
+    requires { ⌜ 110 ≤ length (now w) ⌝ }
+    ensures { λ r. ⌜ r ≡ getD (now (w .entry)) 109 0 % 4294967296 ⌝ }
+{
+    (w[109] % 4294967296) as u32
+}
+
 // The length in a word, cut to what a table has room for.
 fn length_at(w: &[u64], at: usize, most: usize) -> usize
     requires { ⌜ at < length (now w) ⌝ }

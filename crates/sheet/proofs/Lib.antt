@@ -1,6 +1,6 @@
--- The laws of the sheet, by the definitions' files; and Prints, for readers.
+-- The laws of the sheet, by the definitions' files.
 pub mod WritingLaws
 pub mod RowLaws
 pub mod LayoutLaws
 pub mod ChartLaws
-pub mod Prints
+pub mod WhyLaws

@@ -3,4 +3,5 @@ pub mod Layout
 pub mod Decimal
 pub mod Text
 pub mod Printed
+pub mod Why
 pub mod WritingComputed

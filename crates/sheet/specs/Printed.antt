@@ -1,5 +1,5 @@
 -- The program's text: what a sheet prints, whole. Document 01, "Program and values". Each stage goes on from the answer of the one before it.
--- A refusal prints its number, whichever stage it comes from; which can come is a theorem, `taken-prints` in proofs/Prints.antt.
+-- A refusal prints its number, whichever stage it comes from; which can come is a theorem, `taken-prints` in `prints`, proofs/Prints.antt.
 use mathlib.Core.Bool.{cond}
 use mathlib.Core.List.{List}
 use Prim.Native.Nat.{ℕ}

@@ -37,7 +37,7 @@ fn wide(b: u8) -> u64
 }
 
 // The number in so many bytes.
-fn number_in(s: &[u8], at: usize, count: usize) -> u64
+pub(crate) fn number_in(s: &[u8], at: usize, count: usize) -> u64
     requires { ⌜ (at + count ≤ length (now s)) × (count ≤ 8) ⌝ }
     ensures { λ r. ⌜ (r ≡ numberIn (now (s .entry)) at count) × (r < 2 ^ (8 * count)) ⌝ }
 {

@@ -1,10 +1,10 @@
 // A sheet's chart: the program's whole work, from the bytes of a sheet to the text that is printed.
 // Document 01, "Program and values". The ring, the cells and the picture are arrays of this crate, so that none can be short.
 mod head;
+mod why;
 mod write;
 
 ghost use mathlib.Core.Path.{_≡_};
-ghost use mathlib.Core.Bool.{true};
 ghost use mathlib.Core.List.{_++_};
 ghost use Prim.Native.Nat.{_≤_};
 ghost use lib.ListN.{length, drop};
@@ -12,7 +12,6 @@ ghost use Rattle.implicit.specs.Step.{worldOf};
 ghost use Rattle.implicit.specs.Run.{runOf};
 ghost use Rattle.implicit.specs.View.{countsAnswer};
 ghost use Rattle.implicit.specs.declared.state.CountsAnswer.the-variants.{Of};
-ghost use Rattle.sheet.specs.Layout.{takenSheet};
 ghost use Rattle.sheet.specs.Text.{chartText};
 ghost use Rattle.sheet.specs.WritingComputed.{Puts};
 ghost use Rattle.sheet.specs.Printed.{textOf, orderText, ranText, viewText};
@@ -24,6 +23,7 @@ use implicit::SetupAnswer;
 use implicit::State;
 use implicit::Tally;
 use refusal::Refusal;
+pub use why::explain_sheet;
 
 // Puts the text of a sheet at the start of a buffer that has room for the longest, and answers its length.
 pub fn chart_sheet(sheet: &[u8], out: &mut [u8; 8704]) -> usize

@@ -1,9 +1,9 @@
 // Text put into a buffer piece by piece: each function answers the place behind what it put.
 // Document 01, "Program and values": the two lines, the rows, and the line of a refusal.
 ghost use mathlib.Core.Path.{_≡_};
-ghost use mathlib.Core.List.{_∷_, [], _++_, map};
+ghost use mathlib.Core.List.{_++_, map};
 ghost use Prim.Native.Nat.{_+_, _*_, _^_, _≤_, _<_};
-ghost use lib.ListN.{length, take};
+ghost use lib.ListN.{length};
 ghost use Rattle.sheet.specs.Decimal.{digitAt, digitCount, decimalText};
 ghost use Rattle.sheet.specs.Text.{labelled, lineEnd, endingText, runLine, readingCounts, otherCounts, countLine, rowsOf, refusedText};
 ghost use Rattle.sheet.specs.WritingComputed.{Puts, readingOf, symbolOf};
@@ -13,7 +13,7 @@ use implicit::Tally;
 use refusal::Refusal;
 use refusal::number_of;
 
-fn put_bytes(out: &mut [u8], at: usize, text: &[u8]) -> usize
+pub(crate) fn put_bytes(out: &mut [u8], at: usize, text: &[u8]) -> usize
     requires { ⌜ at + length (now text) ≤ length (now out) ⌝ }
     ensures { λ r. ⌜ Puts (now (out .entry)) at (now (text .entry)) (now (out .exit)) r ⌝ }
 {
@@ -69,7 +69,7 @@ fn put_number(out: &mut [u8], at: usize, n: u64) -> usize
 }
 
 // A short word, then a number.
-fn put_labelled(out: &mut [u8], at: usize, word: &[u8], n: u64) -> usize
+pub(crate) fn put_labelled(out: &mut [u8], at: usize, word: &[u8], n: u64) -> usize
     requires { ⌜ (length (now word) ≤ 12) × (at + 32 ≤ length (now out)) ⌝ }
     ensures { λ r. ⌜ Puts (now (out .entry)) at (labelled (now (word .entry)) n) (now (out .exit)) r × (r ≤ at + 32) ⌝ }
 {

@@ -17,7 +17,7 @@ use Rattle.theory.proofs.Invariant.{Sound, AllSound, setup-sound, steps
 
 module _ {Block Pixel : Type 0} (covers : Block → Pixel → Bool) where
   -- no place of the list covers the pixel exactly if no block of it does
-  none-of : (q : List Block) (p : Pixel) → ((i : ℕ) → ¬ T (coversAtPlace covers q i p)) → NoneCovers covers q p
+  pub none-of : (q : List Block) (p : Pixel) → ((i : ℕ) → ¬ T (coversAtPlace covers q i p)) → NoneCovers covers q p
   unfolding coversAtPlace NoneCovers
   none-of [] p h = tt
   none-of (b ∷ q) p h = (h zero, none-of q p (λ i. h (suc i)))

@@ -11,14 +11,20 @@ use Rattle.theory.specs.Cells.{Standing, markedTrue}
 use Rattle.theory.specs.Runs.{Snapshot, Event, marks, queues, givesUp, queuedBy, Narrower, AllNarrower, FinishedStep}
 use Rattle.theory.specs.Demand3.{anyGivesUp, LooksBeforeGivingUp}
 use Rattle.theory.specs.Levels.{BlockPlace, QueuesChildren}
-use Rattle.theory.specs.Colours.{ChildEnd, skipped, denied, marked, waitsAs, stuck, Judgement, judgement, judgedChild, marksInOrder}
+use Rattle.theory.specs.Colours.{Said, ChildEnd, skipped, denied, marked, waitsAs, stuck, Judgement, judgement, judgedChild, marksInOrder}
 use Rattle.theory.specs.Colours.{afterwards, Cutting, Follows, NotAllTrue, SkipRule, StepByVerdicts}
+use Rattle.theory.specs.Why.{endsDenied}
 
 pub denied-looked : (Block : Type 0) → ¬ (_≡_ {A = ChildEnd Block} denied skipped)
 denied-looked Block e = let z : _≡_ {A = ℕ} 0 1 = cc in omega arith
 
 pub marked-looked : (Block : Type 0) → ¬ (_≡_ {A = ChildEnd Block} marked skipped)
 marked-looked Block e = let z : _≡_ {A = ℕ} 0 1 = cc in omega arith
+
+-- the end is known by its test
+pub denied-ends : {Block : Type 0} (c : Block) (v : Said) (f : ChildEnd Block) → f ≡ denied → T (endsDenied (judgement c v f))
+unfolding endsDenied
+denied-ends c v f e = rw e tt
 
 -- marks queue nothing and give nothing up
 pub queued-afterwards : {Block : Type 0} (ts : List (Judgement Block)) (es : List (Event Block)) → queuedBy (marksInOrder ts ++ es) ≡ queuedBy es

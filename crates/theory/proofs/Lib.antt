@@ -25,6 +25,10 @@ pub mod HalvesHold
 pub mod Edges
 pub mod IntegerLaws
 pub mod CutsHold
+-- why a pixel reads what it reads
+pub mod WhyCells
+pub mod WhyReadings
+pub mod WhyCovered
 -- closed instances
 pub mod ExampleSteps
 pub mod ExamplePicture

@@ -1,5 +1,5 @@
 -- The promises, each under the sentence that it proves; the words are those of specs/, the proofs stand in the modules cited. First the four sentences
--- of demand 3, then what the colours mean, then what stands behind them.
+-- of demand 3, then what the colours mean, then why a pixel reads what it reads, then what stands behind them.
 -- Blocks, pixels, `covers` (every floor and shape) and `spare` (either mode) are variables throughout. The demand's conditions: an accepted
 -- setup is AcceptedSetup; a finished step has had legal verdicts; each on the record, ring and cells that setup or the step before it
 -- left, with nobody else writing, is how FinishedSteps are chained. Assumes nothing.
@@ -14,6 +14,7 @@ use lib.IntN.{ℤ}
 use lib.Signed.{_≤ℤ_}
 use Rattle.base.proofs.AxisLaws.{places-over, places-under}
 use Rattle.base.specs.Lists.{Every, Some}
+use Rattle.base.specs.Places.{Latest}
 use Rattle.theory.specs.Cells.{markedTrue, givenUp, named, readsTrue, readsFalse, readsUncertain}
 use Rattle.theory.specs.Runs.{Snapshot, AcceptedSetup, Narrower, AllNarrower, FinishedStep, FinishedSteps, EveryStep, queuedIn}
 use Rattle.theory.specs.Demand3.{pixelReads, NoneCovers, CoversAtMostOne, NamesLast, WasGivenUp, LooksBeforeGivingUp, GivesUpAlike, KeepsTrue}
@@ -21,8 +22,9 @@ use Rattle.theory.specs.Demand3.{GivesUpOnePixel, GivesUpBelow, WholePic
 use Rattle.theory.specs.Levels.{BlockPlace, placeAt, costAbove, OneBlock, QueuesChildren, QueuesAbove, NeverRise, OnTwoLevels, placesAlong}
 use Rattle.theory.specs.Levels.{placesAbove, stripPlacesAbove, pixelFigure, stripPixelFigure, sumOver}
 use Rattle.theory.specs.Shapes.{PixelIn, coversPixel, coversByPlace, quarters, halvesInX}
-use Rattle.theory.specs.Colours.{Question, HasSolution, HoldsAll, Judgement, judgedChild, marksInOrder, afterwards, Cutting, Follows}
+use Rattle.theory.specs.Colours.{Question, HasSolution, Holds, HoldsAll, Judgement, judgedChild, marksInOrder, afterwards, Cutting, Follows}
 use Rattle.theory.specs.Colours.{LosesNothing, StepByVerdicts, EveryJudgement, FalseRight, MarkRight, DecidedBelow}
+use Rattle.theory.specs.Why.{historyOf, AnsweredFalse, KeepsCovered, takesOver, BlackBy, GreyBy, WhiteBy, WaitsFor, RightHere, AllRightHere}
 use Rattle.theory.specs.Positions.{Ruler, PlaceHolds, StripHolds, LiesBetween, SharedEdges, Fraction, LiesExactly, InPixelAlong}
 use Rattle.theory.specs.Cuts.{Span, firstPieces, laterPieces, InSpan, Owes, firstIntegers, laterIntegers}
 use Rattle.theory.proofs.Invariant.{setup-sound, steps-sound, sound-named}
@@ -39,6 +41,8 @@ use Rattle.theory.proofs.Bounds.{square-bound, strip-bound, emptied, lo
 use Rattle.theory.proofs.WhiteMeansNo.{reads-false-none, empty-decides}
 use Rattle.theory.proofs.TrueMeansYes.{reads-true-solves}
 use Rattle.theory.proofs.JudgementLaws.{judgements-narrower, judged-looks, judged-queues}
+use Rattle.theory.proofs.WhyReadings.{white-by, black-by, grey-by, waits-for, white-left, white-none-here}
+use Rattle.theory.proofs.WhyCovered.{quarters-covered, halves-covered}
 use Rattle.theory.proofs.HalvesHold.{root-holds, quarters-hold, halves-hold, strip-root-holds}
 use Rattle.theory.proofs.Edges.{edges-ruler, exact-ruler, pixel-exactly}
 use Rattle.theory.proofs.CutsHold.{first-pieces-hold, later-pieces-hold, first-integers-owe, later-integers-owe}
@@ -101,6 +105,59 @@ module _ {Block Pixel : Type 0} (covers : Block → Pixel → Bool) (C : Cutting
       → EveryJudgement covers C spare (MarkRight covers Q) r j → s .queue ≡ [] → (p : Pixel) → ¬ (s .cells p ≡ givenUp)
       → ((pixelReads s p ≡ readsTrue) × HasSolution Q p) ⊎ ((pixelReads s p ≡ readsFalse) × (¬ HasSolution Q p))
   done-decides laws = empty-decides covers C Q laws spare
+
+-- ---- Why a pixel reads what it reads, request (v): over the history of a run, which is its steps with their judgements, the latest first
+
+module _ {Block Pixel : Type 0} (covers : Block → Pixel → Bool) (C : Cutting Block) (laws : KeepsCovered covers C) (spare : Bool) where
+  -- "For True: the step, the child's place in it", that marked it last
+  pub why-true : {n : ℕ} {s₀ s : Snapshot Block Pixel} → AcceptedSetup covers s₀ → (r : FinishedSteps covers spare n s₀ s)
+      (j : EveryStep covers spare (StepByVerdicts covers C spare) r) (p : Pixel) → pixelReads s p ≡ readsTrue
+      → BlackBy covers p spare (historyOf covers C spare r j)
+  why-true = black-by covers C laws spare
+
+  -- "For False: the step that took the last covering block, and the first covering child answered false"; "it is also proved that every covering
+  -- child of that step was answered false"
+  pub why-false : {n : ℕ} {s₀ s : Snapshot Block Pixel} → AcceptedSetup covers s₀ → (r : FinishedSteps covers spare n s₀ s)
+      (j : EveryStep covers spare (StepByVerdicts covers C spare) r) (p : Pixel) → pixelReads s p ≡ readsFalse
+      → WhiteBy covers p (historyOf covers C spare r j)
+  why-false = white-by covers C laws spare
+
+  -- "For given up: the last step that gave it up and the first child there that found no direction"
+  pub why-given-up : {n : ℕ} {s₀ s : Snapshot Block Pixel} → AcceptedSetup covers s₀ → (r : FinishedSteps covers spare n s₀ s)
+      (j : EveryStep covers spare (StepByVerdicts covers C spare) r) (p : Pixel) → s .cells p ≡ givenUp
+      → GreyBy covers p (historyOf covers C spare r j)
+  why-given-up = grey-by covers C laws spare
+
+  -- "For waiting: the last queued block that covers it and how many stand before it"
+  pub why-waiting : {n : ℕ} {s₀ s : Snapshot Block Pixel} → AcceptedSetup covers s₀ → (r : FinishedSteps covers spare n s₀ s)
+      (j : EveryStep covers spare (StepByVerdicts covers C spare) r) (p : Pixel) (m : ℕ) → s .cells p ≡ named m → s .taken ≤ m
+      → WaitsFor covers p (historyOf covers C spare r j) (s .taken) (s .queue) m
+  why-waiting = waits-for covers C laws spare
+
+  -- what "white because of that step" means: the solutions of the pixel that the steps before it left, as far as their false answers were right
+  -- about this pixel, lie in children of that step that were answered false
+  pub left-in-false-children : (Q : Question Block Pixel) → LosesNothing covers C Q → {n : ℕ} {s₀ s : Snapshot Block Pixel} → AcceptedSetup covers s₀
+      → HoldsAll covers Q s₀ → (r : FinishedSteps covers spare n s₀ s) (j : EveryStep covers spare (StepByVerdicts covers C spare) r) (p : Pixel)
+      → pixelReads s p ≡ readsFalse → (o : Latest (takesOver covers p) (historyOf covers C spare r j))
+      → AllRightHere covers p Q (o .before) → (x : Q .Mix) → Q .Given x → Q .At x p → Q .Solves x
+      → Some (λ t. AnsweredFalse t × Holds covers Q x p (judgedChild t)) (o .this .judgements)
+  left-in-false-children = white-left covers C laws spare
+
+  -- so white means no by the false answers up to that step alone, and by what they say of this pixel alone
+  pub white-by-that-step : (Q : Question Block Pixel) → LosesNothing covers C Q → {n : ℕ} {s₀ s : Snapshot Block Pixel} → AcceptedSetup covers s₀
+      → HoldsAll covers Q s₀ → (r : FinishedSteps covers spare n s₀ s) (j : EveryStep covers spare (StepByVerdicts covers C spare) r) (p : Pixel)
+      → pixelReads s p ≡ readsFalse → (o : Latest (takesOver covers p) (historyOf covers C spare r j))
+      → AllRightHere covers p Q (o .before) → Every (RightHere covers p Q) (o .this .judgements) → ¬ HasSolution Q p
+  white-by-that-step = white-none-here covers C laws spare
+
+-- what this asks of the cutting, for squares and for strips: a pixel that a place covers, one of its listed children covers
+pub quarters-keep-covered : (w h px : ℕ) (p : PixelIn w h) (b : BlockPlace) → zero < b .level → T (coversPixel px b p)
+    → Some (λ c. T (coversPixel px c p)) (quarters px w h b)
+quarters-keep-covered = quarters-covered
+
+pub halves-keep-covered : (w px : ℕ) (p : PixelIn w 1) (b : BlockPlace) → zero < b .level → T (coversPixel px b p)
+    → Some (λ c. T (coversPixel px c p)) (halvesInX px w b)
+halves-keep-covered = halves-covered
 
 -- ---- Behind the False rule, and first in, first out
 

@@ -16,30 +16,31 @@ use Rattle.theory.specs.Demand3.{pixelReads, anyGivesUp, NoneCovers}
 use Rattle.theory.specs.Colours.{Question, HasSolution, Holds, NoneIn, HoldsAll, skipped, denied, marked, waitsAs, stuck, Judgement, judgement}
 use Rattle.theory.specs.Colours.{judgedChild, marksInOrder, afterwards, Cutting, Follows, AllTrue, SkipRule, LosesNothing, StepByVerdicts}
 use Rattle.theory.specs.Colours.{EveryJudgement, FalseRight, MarkRight}
+use Rattle.theory.specs.Why.{historyOf, endsDenied, RightHere, AllRightHere}
 use Rattle.base.specs.Lists.{Every, Some}
 use Rattle.base.proofs.ListLaws.{some-left, some-right}
 use Rattle.theory.proofs.Nameless.{Nameless}
 use Rattle.theory.proofs.StandingLaws.{reads-true, reads-false, nameless-stays, step-nameless, step-unnames}
 use Rattle.theory.proofs.Invariant.{setup-sound, steps-sound}
 use Rattle.theory.proofs.FalseRule.{false-by-cell}
-use Rattle.theory.proofs.JudgementLaws.{denied-looked, queued-afterwards, given-up-afterwards}
+use Rattle.theory.proofs.JudgementLaws.{denied-looked, denied-ends, queued-afterwards, given-up-afterwards}
 use Rattle.theory.proofs.TrueMeansYes.{reads-true-solves}
 
 module _ {Block Pixel : Type 0} (covers : Block → Pixel → Bool) (C : Cutting Block) (Q : Question Block Pixel) (laws : LosesNothing covers C Q)
     (spare : Bool) where
   -- a solution in one of the children: the marks make its pixel True, or a child gives up, or it lies in what is queued
-  found : (ts : List (Judgement Block)) (x : Q .Mix) (p : Pixel) → Q .Given x → Q .At x p → Q .Solves x → Every (FalseRight covers Q) ts
+  found : (ts : List (Judgement Block)) (x : Q .Mix) (p : Pixel) → Q .Given x → Q .At x p → Q .Solves x → Every (RightHere covers p Q) ts
       → Every (Follows C) ts
       → (t : ℕ) (b : Block) (m : ℕ) (rest : List (Event Block)) (cells : Pixel → Standing) → SkipRule covers cells ts
       → Some (Holds covers Q x p) (map judgedChild ts)
       → (Nameless (cellAfter covers spare t b m (marksInOrder ts ++ rest) p (cells p)) ⊎ T (anyGivesUp (afterwards ts))) ⊎ Some (Holds covers Q x p)
       (queuedBy (afterwards ts))
-  unfolding Some Holds judgedChild FalseRight NoneIn Follows SkipRule AllTrue marksInOrder afterwards queuedBy anyGivesUp cellAfter
+  unfolding Some Holds judgedChild RightHere Follows SkipRule AllTrue marksInOrder afterwards queuedBy anyGivesUp cellAfter
   found [] x p g at so a w t b m rest cells k h = absurd h
   found (judgement c v skipped ∷ ts) x p g at so a w t b m rest cells k (inl h) =
       inl (inl (nameless-stays covers spare t b m (marksInOrder ts ++ rest) p (cells p) (rw (k .0 p (h .1)) tt)))
   found (judgement c v skipped ∷ ts) x p g at so a w t b m rest cells k (inr h) = found ts x p g at so (a .1) (w .1) t b m rest cells (k .1) h
-  found (judgement c v denied ∷ ts) x p g at so a w t b m rest cells k (inl h) = absurd (a .0 (denied-looked Block) (w .0) x p g at h so)
+  found (judgement c v denied ∷ ts) x p g at so a w t b m rest cells k (inl h) = absurd (a .0 refl x g at h so)
   found (judgement c v denied ∷ ts) x p g at so a w t b m rest cells k (inr h) = found ts x p g at so (a .1) (w .1) t b m rest cells (k .1) h
   found (judgement c v marked ∷ ts) x p g at so a w t b m rest cells k (inl h) =
       inl (inl (nameless-stays covers spare t b m (marksInOrder ts ++ rest) p (cond (covers c p) markedTrue (cells p)) (rw (T→≡ (covers c p) (h .1)) tt)))
@@ -51,17 +52,17 @@ module _ {Block Pixel : Type 0} (covers : Block → Pixel → Bool) (C : Cutting
       ⊎-elim (λ o. inl o) (λ o. inr (inr o)) (found ts x p g at so (a .1) (w .1) t b m rest cells (k .1) h)
   found (judgement c v stuck ∷ ts) x p g at so a w t b m rest cells k h = inl (inr tt)
 
-  -- the invariant
-  Kept : Snapshot Block Pixel → Type 0
-  Kept s = (p : Pixel) (n : ℕ) → s .cells p ≡ named n → (x : Q .Mix) → Q .Given x → Q .At x p → Q .Solves x → Some (Holds covers Q x p) (s .queue)
+  -- the invariant, of a pixel
+  unfoldable pub Kept : Pixel → Snapshot Block Pixel → Type 0
+  Kept p s = (n : ℕ) → s .cells p ≡ named n → (x : Q .Mix) → Q .Given x → Q .At x p → Q .Solves x → Some (Holds covers Q x p) (s .queue)
 
   not-nameless : (v : Standing) (n : ℕ) → v ≡ named n → ¬ Nameless v
   not-nameless v n e h = let z : Nameless (named n) = rw e at h in z
 
   kept-step : {s s′ : Snapshot Block Pixel} (st : FinishedStep covers spare s s′) (j : StepByVerdicts covers C spare s s′ st)
-      → Every (FalseRight covers Q) (j .judgements) → Kept s → Kept s′
+      (p : Pixel) → Every (RightHere covers p Q) (j .judgements) → Kept p s → Kept p s′
   unfolding Kept Holds Some
-  kept-step {s} {s′} st j a h p n e x g at so = go (s .cells p) refl
+  kept-step {s} {s′} st j p a h n e x g at so = go (s .cells p) refl
     where
       ts : List (Judgement Block)
       ts = j .judgements
@@ -89,14 +90,36 @@ module _ {Block Pixel : Type 0} (covers : Block → Pixel → Bool) (C : Cutting
       go : (v : Standing) → s .cells p ≡ v → Some (Holds covers Q x p) (s′ .queue)
       go markedTrue f = absurd (named-still (step-nameless covers spare st p (rw f tt)))
       go givenUp f = absurd (named-still (step-nameless covers spare st p (rw f tt)))
-      go (named i) f = held (rw st.at-front at (h p i f x g at so))
+      go (named i) f = held (rw st.at-front at (h i f x g at so))
 
-  kept-steps : {n : ℕ} {s s′ : Snapshot Block Pixel} (r : FinishedSteps covers spare n s s′) (j : EveryStep covers spare (StepByVerdicts covers C spare) r)
-      → EveryJudgement covers C spare (FalseRight covers Q) r j
-      → Kept s → Kept s′
-  unfolding EveryStep EveryJudgement
-  kept-steps no-step j a h = h
-  kept-steps (one-more r st) j a h = kept-step st (j .1) (a .1) (kept-steps r (j .0) (a .0) h)
+  -- after any number of steps whose false answers were right for this pixel
+  pub kept-steps : {n : ℕ} {s s′ : Snapshot Block Pixel} (r : FinishedSteps covers spare n s s′)
+      (j : EveryStep covers spare (StepByVerdicts covers C spare) r) (p : Pixel) → AllRightHere covers p Q (historyOf covers C spare r j)
+      → Kept p s → Kept p s′
+  unfolding EveryStep historyOf AllRightHere
+  kept-steps no-step j p a h = h
+  kept-steps (one-more r st) j p a h = kept-step st (j .1) p (a .0) (kept-steps r (j .0) p (a .1) h)
+
+  pub kept-setup : (s : Snapshot Block Pixel) → HoldsAll covers Q s → (p : Pixel) → Kept p s
+  unfolding Kept HoldsAll
+  kept-setup s begin p n e x g at so = begin x p g at
+
+  -- right for every pixel is right for this one
+  right-here : (ts : List (Judgement Block)) (p : Pixel) → Every (Follows C) ts → Every (FalseRight covers Q) ts → Every (RightHere covers p Q) ts
+  unfolding FalseRight RightHere NoneIn Follows endsDenied
+  right-here [] p w a = tt
+  right-here (judgement c v skipped ∷ ts) p w a = ((λ e. absurd (denied-ends c v skipped e)), right-here ts p (w .1) (a .1))
+  right-here (judgement c v denied ∷ ts) p w a = ((λ e x. a .0 (denied-looked Block) (w .0) x p), right-here ts p (w .1) (a .1))
+  right-here (judgement c v marked ∷ ts) p w a = ((λ e. absurd (denied-ends c v marked e)), right-here ts p (w .1) (a .1))
+  right-here (judgement c v (waitsAs d) ∷ ts) p w a = ((λ e. absurd (denied-ends c v (waitsAs d) e)), right-here ts p (w .1) (a .1))
+  right-here (judgement c v stuck ∷ ts) p w a = ((λ e. absurd (denied-ends c v stuck e)), right-here ts p (w .1) (a .1))
+
+  pub all-right-here : {n : ℕ} {s s′ : Snapshot Block Pixel} (r : FinishedSteps covers spare n s s′)
+      (j : EveryStep covers spare (StepByVerdicts covers C spare) r) → EveryJudgement covers C spare (FalseRight covers Q) r j → (p : Pixel)
+      → AllRightHere covers p Q (historyOf covers C spare r j)
+  unfolding EveryStep EveryJudgement historyOf AllRightHere
+  all-right-here no-step j a p = tt
+  all-right-here (one-more r st) j a p = (right-here (j .1 .judgements) p (j .1 .by-verdict) (a .1), all-right-here r (j .0) (a .0) p)
 
   none-holds : (x : Q .Mix) (p : Pixel) (q : List Block) → NoneCovers covers q p → ¬ Some (Holds covers Q x p) q
   unfolding Some Holds NoneCovers
@@ -108,10 +131,10 @@ module _ {Block Pixel : Type 0} (covers : Block → Pixel → Bool) (C : Cutting
       → (r : FinishedSteps covers spare n s₀ s) (j : EveryStep covers spare (StepByVerdicts covers C spare) r)
       → EveryJudgement covers C spare (FalseRight covers Q) r j → (p : Pixel) → pixelReads s p ≡ readsFalse → ¬ HasSolution Q p
   unfolding Kept HasSolution HoldsAll
-  reads-false-none {s = s} z begin r j a p e (x, g, at, so) =
+  reads-false-none {s₀ = s₀} {s = s} z begin r j a p e (x, g, at, so) =
       let (n, f, l) = reads-false (s .taken) (s .cells p) .0 (unfold pixelReads in e) in
       none-holds x p (s .queue) (false-by-cell covers s (steps-sound covers spare r (setup-sound covers z)) p .0 e .2)
-      (kept-steps r j a (λ q m k y gy aty sy. begin y q gy aty) p n f x g at so)
+      (kept-steps r j p (all-right-here r j a p) (kept-setup s₀ begin p) n f x g at so)
 
   pub empty-decides : {n : ℕ} {s₀ s : Snapshot Block Pixel} → AcceptedSetup covers s₀ → HoldsAll covers Q s₀
       → (r : FinishedSteps covers spare n s₀ s) (j : EveryStep covers spare (StepByVerdicts covers C spare) r)

@@ -7,3 +7,4 @@ pub mod Shapes
 pub mod Colours
 pub mod Positions
 pub mod Cuts
+pub mod Why

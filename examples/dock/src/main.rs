@@ -1,5 +1,6 @@
 //! Draws the example charts as text: `dock FOLDER` writes a file for each relation there, `dock FOLDER STEPS` what is known after so many steps, and
-//! `dock --check` holds the charts against brute force. Beside each chart it writes a thumbnail of it.
+//! `dock --check` holds the charts against brute force. Beside each chart it writes a thumbnail of it. `dock --why` says of one pixel of each kind why
+//! it is white, grey or black.
 
 mod check;
 mod evaluator;
@@ -8,8 +9,9 @@ mod interval;
 mod relations;
 mod text;
 mod thumbnail;
+mod why;
 
-use relations::{Relation, RELATIONS};
+use relations::{Edged, Relation, RELATIONS};
 use smyrilox::{Chart, Ending, Refusal};
 use std::io::{IsTerminal, Write};
 use std::{env, fs, path::Path, process};
@@ -17,12 +19,13 @@ use std::{env, fs, path::Path, process};
 /// Bytes for the queue, and steps at most unless told otherwise.
 const RING: usize = 1 << 20;
 const BUDGET: u32 = 400_000;
-const USAGE: &str = "usage: dock FOLDER [STEPS], or dock --check";
+const USAGE: &str = "usage: dock FOLDER [STEPS], dock --check, or dock --why";
 
 fn main() {
     let words: Vec<String> = env::args().skip(1).collect();
     let done = match &words[..] {
         [word] if word == "--check" => check_all(),
+        [word] if word == "--why" => explain_all(),
         [folder] if !folder.starts_with('-') => draw_all(Path::new(folder), BUDGET, ""),
         [folder, steps] => steps
             .parse()
@@ -38,7 +41,9 @@ fn main() {
 
 /// So many steps, or fewer if nothing is left to do: the chart, and the evaluations that it cost.
 fn refine(relation: &Relation, steps: u32) -> Result<(Chart, u64), Refusal> {
-    let mut chart = Chart::new(&relation.setup(), RING)?.with_table()?;
+    let mut chart = Chart::new(&relation.setup(), RING)?
+        .with_table()?
+        .keeping_verdicts();
     let run = chart.refine_watched(
         |block| evaluator::verdict(relation, block),
         steps,
@@ -94,6 +99,27 @@ fn draw_all(folder: &Path, budget: u32, suffix: &str) -> Result<(), String> {
 
 fn write(file: &Path, text: &str) -> Result<(), String> {
     fs::write(file, text).map_err(|e| format!("{}: {e}", file.display()))
+}
+
+/// The charts after 150 steps, of which many pixels wait; and balance judged by boxes, to its end, of which some are given up.
+fn explain_all() -> Result<(), String> {
+    let by_boxes = Relation {
+        edged: Edged::ByBoxes,
+        ..RELATIONS[2]
+    };
+    let early = RELATIONS
+        .iter()
+        .map(|relation| (relation, 150, "after 150 steps"));
+    for (relation, steps, when) in early.chain([(&by_boxes, BUDGET, "judged by boxes, at its end")])
+    {
+        let (chart, _) =
+            refine(relation, steps).map_err(|why| format!("{}: {why}", relation.name))?;
+        println!("{}, {when}", relation.name);
+        for e in why::one_of_each_kind(&chart).map_err(|why| format!("{}: {why}", relation.name))? {
+            println!("  column {}, row {}: {}", e.column, e.row, e.reason);
+        }
+    }
+    Ok(())
 }
 
 fn check_all() -> Result<(), String> {

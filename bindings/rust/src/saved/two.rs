@@ -1,7 +1,7 @@
 //! Layout 2: the queue's bytes alone, from the front, with the ranges of the setup, the tag, and what kind of chart it is.
 
 use super::{check, fields::*, NotLoaded, Saved, NAME};
-use crate::{ffi, Interval};
+use crate::{ffi, room::queue, Interval};
 
 const VERSION: u32 = 2;
 /// The bytes before the tag, and those of the check at the end.
@@ -32,18 +32,11 @@ pub(super) fn written(s: &ffi::State, ranges: Option<ffi::Ranges>, tag: &[u8], r
     put_last(&mut out, &s.front);
     put_last(&mut out, &s.back);
     out.extend_from_slice(tag);
-    put_queue(&mut out, s, ring);
+    out.extend(queue(s, ring).into_iter().flatten());
     put_words(&mut out, cells[..pixels].iter().copied());
     let check = check::crc32(&out);
     out.extend_from_slice(&check.to_le_bytes());
     out
-}
-
-/// The ring's bytes in use, from the head on.
-fn put_queue(out: &mut Vec<u8>, s: &ffi::State, ring: &[u8]) {
-    let before_the_end = s.used.min(ring.len() - s.head);
-    out.extend_from_slice(&ring[s.head..s.head + before_the_end]);
-    out.extend_from_slice(&ring[..s.used - before_the_end]);
 }
 
 pub(super) fn read(bytes: &[u8]) -> Result<Saved<'_>, NotLoaded> {

@@ -99,7 +99,7 @@ returns-2 c =
     let a = entry k .args in
     step-on (a .p) (a .ring .now) (a .cells .now) (a .tape .now) _ (next-itself (a .p) (a .ring .now) (a .cells .now) (a .tape .now))
     (s .result) (s .last .1 .0) (s .last .1 .1 .0) (ends k) _ _ _
-    (c .add-step .result) (c .before .before .state .given .1) (c .add-step .ensures) (held (entry k))
+    (c .before .before .state .given .1) (c .add-step .result) (c .add-step .ensures) (held (entry k))
 
 pub go-step-spec : {M : Type 1} → statement M
 go-step-spec =

@@ -117,7 +117,7 @@ returns-2 c =
     let a = b .args in
     let e = ends k in (
       step-on (a .p) (a .ring .now) (a .cells .now) (a .tape .now) _ (next-plain (length (a .table .now)) (a .p) (a .ring .now) (a .cells .now) (a .tape .now))
-          (k .step-tiled .result) _ _ (e .0) _ _ _ (c .add-step .result) (c .before .before .state .given .1) (c .add-step .ensures) (held b),
+          (k .step-tiled .result) _ _ (e .0) _ _ _ (c .before .before .state .given .1) (c .add-step .result) (c .add-step .ensures) (held b),
       e .1,
     )
 

@@ -1,0 +1,8 @@
+-- What an explanation answers and leaves.
+pub mod History
+pub mod Reasons
+pub mod Explained
+pub mod LookComputed
+pub mod NotesComputed
+pub mod RepeatComputed
+pub mod ExplainComputed
