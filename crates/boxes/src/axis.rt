@@ -11,7 +11,7 @@ use interval::{Interval, PointAnswer, midpoint, put};
 const PARTS: u64 = 4294967296;
 
 // An axis of a plot: its side and the padding at both ends, in pixels, and the intervals that its edges stand in.
-#[derive(Drop)]
+#[derive(Clone, Copy)]
 pub struct PlotAxis {
     pub side: u32,
     pub before: u32,
@@ -21,7 +21,7 @@ pub struct PlotAxis {
 }
 
 // A block along an axis: its two edges, and the interval between them.
-#[derive(Drop)]
+#[derive(Clone, Copy)]
 pub struct AxisBox {
     pub low: Interval,
     pub high: Interval,

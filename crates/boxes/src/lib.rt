@@ -1,6 +1,8 @@
 // Coordinate boxes for evaluators: where a block lies in the units that a picture's edges are given in, with bounds that enclose the exact place.
 // Document 02, (ii); from the Rust's geom.rs (`Transformation1D`, `Box2D`), graph/implicit.rs (`Implicit::new`, `region`, `region_clipped`) and
 // graph/common.rs (`subpixel_outer`). Here stand the types and the one call from a setup's values to a box, so that its refusals come in their order.
+#![tactic(auto)]
+
 ghost use Rattle.std.specs.Prelude.{◌≡◌, ◌&&◌};
 ghost use Rattle.boxes.specs.Boxes.{box_of, x_axis, y_axis, has_room, has_legal_edges, is_sound, joined, box_from};
 
@@ -17,7 +19,7 @@ mod transformation;
 
 // The padding of a picture, in pixels: its edges stand behind it.
 #[repr(C)]
-#[derive(Drop)]
+#[derive(Clone, Copy)]
 pub struct Padding {
     pub left: u32,
     pub right: u32,
@@ -27,7 +29,7 @@ pub struct Padding {
 
 // Four edges, each by an interval that it stands in: a picture's, or a block's.
 #[repr(C)]
-#[derive(Drop)]
+#[derive(Clone, Copy)]
 pub struct Edges {
     pub left: Interval,
     pub right: Interval,
@@ -37,7 +39,7 @@ pub struct Edges {
 
 // A picture with its padding, and the intervals that its edges stand in.
 #[repr(C)]
-#[derive(Drop)]
+#[derive(Clone, Copy)]
 pub struct Plot {
     pub width: u32,
     pub height: u32,
@@ -46,7 +48,7 @@ pub struct Plot {
 }
 
 // A block's box: its edges; and the intervals along x and y that the Rust's evaluator is handed, from level 0 down narrowed.
-#[derive(Drop)]
+#[derive(Clone, Copy)]
 pub enum BoxAnswer {
     Box {
         edges: Edges,

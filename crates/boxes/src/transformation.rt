@@ -6,14 +6,14 @@ use crate::arithmetic::{add, div, mul, neg, sub};
 use interval::Interval;
 
 // The kind of a map; the Rust's `Fast` is quick.
-#[derive(Drop)]
+#[derive(Clone, Copy)]
 pub enum MapKind {
     Quick,
     Precise,
 }
 
 // A map along one axis. The precise one has its anchor and its span in pixels, a0 and a01, and those in coordinates, x0 and x01.
-#[derive(Drop)]
+#[derive(Clone, Copy)]
 pub enum Transformation {
     Quick {
         slope: Interval,

@@ -13,7 +13,7 @@ use queue::Block;
 use refusal::Refusal;
 
 // What crosses of a reason.
-#[derive(Drop)]
+#[derive(Clone, Copy)]
 pub(crate) struct Told {
     pub reason: u64,
     pub step: u64,

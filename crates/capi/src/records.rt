@@ -10,7 +10,7 @@ pub(crate) const LOWEST_LEVEL: i32 = -48;
 
 // A coordinate: an index, and the document's level k.
 #[repr(C)]
-#[derive(Drop)]
+#[derive(Clone, Copy)]
 pub struct Coordinate {
     pub index: u64,
     pub level: i32,
@@ -18,7 +18,7 @@ pub struct Coordinate {
 
 // A child of the front block, as an evaluator is asked about it.
 #[repr(C)]
-#[derive(Drop)]
+#[derive(Clone, Copy)]
 pub struct Child {
     pub x: Coordinate,
     pub y: Coordinate,
@@ -30,7 +30,7 @@ pub struct Child {
 
 // A setup's answer.
 #[repr(C)]
-#[derive(Drop)]
+#[derive(Clone, Copy)]
 pub struct Started {
     pub refusal: u64,
     pub state: State,
@@ -38,7 +38,7 @@ pub struct Started {
 
 // A move's answer.
 #[repr(C)]
-#[derive(Drop)]
+#[derive(Clone, Copy)]
 pub struct Moved {
     pub refusal: u64,
     pub state: State,
@@ -46,7 +46,7 @@ pub struct Moved {
 
 // The children listed, the first `count` of four.
 #[repr(C)]
-#[derive(Drop)]
+#[derive(Clone, Copy)]
 pub struct Listed {
     pub refusal: u64,
     pub count: usize,
@@ -55,7 +55,7 @@ pub struct Listed {
 
 // A step's answer.
 #[repr(C)]
-#[derive(Drop)]
+#[derive(Clone, Copy)]
 pub struct Stepped {
     pub refusal: u64,
     pub evaluations: u64,
@@ -65,7 +65,7 @@ pub struct Stepped {
 
 // A run's answer: the ending is 1 done, 2 limit, 3 more, 4 stop, and `stop` the refusal that stopped it.
 #[repr(C)]
-#[derive(Drop)]
+#[derive(Clone, Copy)]
 pub struct Ran {
     pub refusal: u64,
     pub ending: u64,
@@ -78,7 +78,7 @@ pub struct Ran {
 
 // The counts' answer.
 #[repr(C)]
-#[derive(Drop)]
+#[derive(Clone, Copy)]
 pub struct Counted {
     pub refusal: u64,
     pub counts: Tally,
@@ -86,7 +86,7 @@ pub struct Counted {
 
 // A number, or 1 for yes and 0 for no.
 #[repr(C)]
-#[derive(Drop)]
+#[derive(Clone, Copy)]
 pub struct Number {
     pub refusal: u64,
     pub value: u64,
@@ -94,7 +94,7 @@ pub struct Number {
 
 // A point of an interval.
 #[repr(C)]
-#[derive(Drop)]
+#[derive(Clone, Copy)]
 pub struct Point {
     pub refusal: u64,
     pub value: f64,
@@ -102,7 +102,7 @@ pub struct Point {
 
 // The pieces of a cut, the first `count` of three.
 #[repr(C)]
-#[derive(Drop)]
+#[derive(Clone, Copy)]
 pub struct Pieces {
     pub refusal: u64,
     pub count: usize,
@@ -111,7 +111,7 @@ pub struct Pieces {
 
 // A small number's code: the head byte, then the `count` low bytes of `tail`, lowest first.
 #[repr(C)]
-#[derive(Drop)]
+#[derive(Clone, Copy)]
 pub struct Code {
     pub refusal: u64,
     pub head: u8,
@@ -121,7 +121,7 @@ pub struct Code {
 
 // A small number read, and how many bytes its code took.
 #[repr(C)]
-#[derive(Drop)]
+#[derive(Clone, Copy)]
 pub struct Read {
     pub refusal: u64,
     pub value: u64,
@@ -130,7 +130,7 @@ pub struct Read {
 
 // The halves of a coordinate.
 #[repr(C)]
-#[derive(Drop)]
+#[derive(Clone, Copy)]
 pub struct Halved {
     pub refusal: u64,
     pub low: Coordinate,
@@ -139,7 +139,7 @@ pub struct Halved {
 
 // A block's box: its edges, and the intervals along x and y, from level 0 down narrowed.
 #[repr(C)]
-#[derive(Drop)]
+#[derive(Clone, Copy)]
 pub struct Boxed {
     pub refusal: u64,
     pub edges: Edges,
@@ -149,7 +149,7 @@ pub struct Boxed {
 
 // An explanation's answer: the reason is 1 true, 2 false, 3 given up, 4 waiting, and 0 where there is none; what does not apply is blank.
 #[repr(C)]
-#[derive(Drop)]
+#[derive(Clone, Copy)]
 pub struct Explained {
     pub refusal: u64,
     pub reason: u64,

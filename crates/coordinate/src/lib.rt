@@ -1,6 +1,8 @@
 // Coordinates: an index and a level on one axis of the picture. Document 01, "Small numbers and coordinates".
 // The level k is kept as its rank, k + 48, an unsigned number: -32 to 15 is 16 to 63, and rank 48 is one pixel wide.
 // A lone coordinate outside the ranges is refused by 8.
+#![tactic(auto)]
+
 ghost use Rattle.std.specs.Prelude.{◌≡◌, ◌<◌};
 ghost use Rattle.coordinate.specs.Axis.{ordinary_floor, legal_side, inside};
 ghost use Rattle.coordinate.specs.Lone.{legal, pixel_asked, halves_asked, subdivisible_asked, inside_asked, place_right};
@@ -18,7 +20,7 @@ pub const LONGEST_SIDE: u32 = 32768;
 
 // The part of one axis from i times 2^k to (i + 1) times 2^k, in pixels.
 #[repr(C)]
-#[derive(Drop)]
+#[derive(Clone, Copy)]
 pub struct Coordinate {
     pub index: u64,
     // k + 48
@@ -26,14 +28,14 @@ pub struct Coordinate {
 }
 
 // The pixel that a coordinate begins in.
-#[derive(Drop)]
+#[derive(Clone, Copy)]
 pub enum PixelAnswer {
     At(u64),
     Refused(Refusal),
 }
 
 // The two halves of a coordinate.
-#[derive(Drop)]
+#[derive(Clone, Copy)]
 pub enum HalvesAnswer {
     Halves { low: Coordinate, high: Coordinate },
     Refused(Refusal),

@@ -16,14 +16,14 @@ use queue::{Block, Direction, DirectionAt, direction_at, is_integer, parameter_o
 
 // The children of a block, the first `count` of them; the places behind hold the block itself.
 #[repr(C)]
-#[derive(Drop)]
+#[derive(Clone, Copy)]
 pub struct Children {
     pub at: [Block; 4],
     pub count: usize,
 }
 
 // How a block is cut: along its direction, with the quarters of the right half listed or not, and into how many children. A damaged block has none.
-#[derive(Drop)]
+#[derive(Clone, Copy)]
 pub struct Cut {
     pub along: DirectionAt,
     pub right: bool,
@@ -31,7 +31,7 @@ pub struct Cut {
 }
 
 // Where a child lies.
-#[derive(Drop)]
+#[derive(Clone, Copy)]
 pub struct Place {
     pub x: Coordinate,
     pub y: Coordinate,

@@ -2,6 +2,7 @@
 // goes on. The crates `plan` and `implicit` put these together.
 // Document 01, "Picture and step"; from the Rust's graph/implicit.rs (`subdivide_xy`, `process_block`, the search for a direction).
 // There is no ring here, and no cell is written. Every public function takes any picture, block, verdicts and cells.
+#![tactic(auto)]
 
 mod children;
 mod damage;
@@ -17,7 +18,7 @@ pub use verdict::{Outcome, cost_of, is_legal_verdict, judge};
 // What a setup chooses and no step changes: the sides in pixels, and the variables in use. The reserved bytes are for what later
 // releases let a setup choose: setup makes them 0, and nothing looks at them.
 #[repr(C)]
-#[derive(Drop)]
+#[derive(Clone, Copy)]
 pub struct Chosen {
     pub width: u32,
     pub height: u32,

@@ -12,7 +12,7 @@ use queue::{Block, Direction, DirectionAt, direction_at, direction_count};
 use refusal::Whether;
 
 // The place of a direction in the list of those in use.
-#[derive(Drop)]
+#[derive(Clone, Copy)]
 pub enum Found {
     At(u8),
     Nothing,

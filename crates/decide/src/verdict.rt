@@ -5,7 +5,7 @@ ghost use Rattle.decide.specs.Verdict.{legal_verdict, first_point, undecided_out
 use coordinate::PIXEL_RANK;
 
 // What becomes of a child before directions are sought.
-#[derive(Drop)]
+#[derive(Clone, Copy)]
 pub enum Outcome {
     // All its cells were True already, so its verdict plays no part.
     Skipped,

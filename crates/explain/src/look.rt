@@ -9,7 +9,7 @@ use queue::Block;
 
 // The place of the last child that marks the pixel, with the place of the sample point that did, or 0; of the first covering child answered false; and of
 // the first child that finds no direction. Places count from 1; 0 is none.
-#[derive(Drop)]
+#[derive(Clone, Copy)]
 pub(crate) struct Look {
     pub mark: u8,
     pub point: u8,

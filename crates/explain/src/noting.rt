@@ -11,7 +11,7 @@ use implicit::State;
 use queue::{Block, Peeked};
 
 // The last mark, with the sample point or 0; the last covering block taken, with the first covering child answered false; and the last giving up.
-#[derive(Drop)]
+#[derive(Clone, Copy)]
 pub(crate) struct Notes {
     pub mark: Moment,
     pub point: u8,

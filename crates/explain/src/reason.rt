@@ -5,14 +5,14 @@ use refusal::Refusal;
 
 // A step of the run, and a child's place in it, among all its children; both count from 1.
 #[repr(C)]
-#[derive(Drop)]
+#[derive(Clone, Copy)]
 pub struct Moment {
     pub step: u64,
     pub child: u8,
 }
 
 // Why a pixel reads what it reads.
-#[derive(Drop)]
+#[derive(Clone, Copy)]
 pub enum Reason {
     // It is True: the child that marked it last, by its area verdict, for which `point` is 0, or by the sample point at this place.
     True {
@@ -36,7 +36,7 @@ pub enum Reason {
 }
 
 // The reason, after the finished steps, with what a run of them reports; or the number of the step that refused, with the same; or why nothing was begun.
-#[derive(Drop)]
+#[derive(Clone, Copy)]
 pub enum Explanation {
     Of {
         reason: Reason,

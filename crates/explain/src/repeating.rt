@@ -13,7 +13,7 @@ use image::{CellKind, Seen};
 use implicit::{Ending, State, StepAnswer};
 
 // How far the repetition is: what a run has counted, the notes, and, once it is over, how it ended.
-#[derive(Drop)]
+#[derive(Clone, Copy)]
 pub(crate) struct Repeated {
     pub state: State,
     pub steps: u64,

@@ -2,6 +2,8 @@
 // Document 01, "Picture and step": rows from the top, y from the bottom. The numbers that stand for True and given up appear in this crate only.
 // What takes a rectangle takes any, and any cells: where the rectangle leaves the picture, or the cells are fewer than the pixels, it changes
 // nothing and says so, and cells beyond the pixels are never read or written. `cells_hold` and `draw` take no rectangle but all cells that are lent.
+#![tactic(auto)]
+
 ghost use Rattle.std.specs.Prelude.{◌≡◌, ◌+◌, ◌-◌, ◌^◌, ◌≤◌, ◌<◌, min, eqb, length};
 ghost use Rattle.image.specs.Cell.{meaning_of, meanings, nameable, reading, of_kind, character_of, share_of};
 ghost use Rattle.image.specs.Range.{first_pixel, rectangle_of, whole_picture, picture_ready};
@@ -18,7 +20,7 @@ const TRUE: u64 = 4294967296;
 const GIVEN_UP: u64 = 4294967297;
 
 // What a pixel shows.
-#[derive(Drop)]
+#[derive(Clone, Copy)]
 pub enum Reading {
     // No solution is left to be found.
     False,
@@ -29,7 +31,7 @@ pub enum Reading {
 }
 
 // What happens to each cell of a rectangle.
-#[derive(Drop)]
+#[derive(Clone, Copy)]
 pub enum Op {
     // A solution was found.
     Mark,
@@ -42,7 +44,7 @@ pub enum Op {
 }
 
 // What is looked for in a rectangle.
-#[derive(Drop)]
+#[derive(Clone, Copy)]
 pub enum CellKind {
     // Anything but True.
     Unmarked,
@@ -53,7 +55,7 @@ pub enum CellKind {
 }
 
 // Whether a rectangle holds it; `Outside` where the rectangle or the cells do not fit the picture.
-#[derive(Drop)]
+#[derive(Clone, Copy)]
 pub enum Seen {
     Yes,
     No,
@@ -62,7 +64,7 @@ pub enum Seen {
 
 // Columns left to right and rows top to bottom, the last of each left out. Rows count from the top.
 #[repr(C)]
-#[derive(Drop)]
+#[derive(Clone, Copy)]
 pub struct PixelRange {
     pub left: usize,
     pub right: usize,
@@ -72,7 +74,7 @@ pub struct PixelRange {
 
 // How many cells read True, False and Uncertain, and how many are given up (these read Uncertain too).
 #[repr(C)]
-#[derive(Drop)]
+#[derive(Clone, Copy)]
 pub struct CellTally {
     pub trues: u64,
     pub falses: u64,
@@ -81,7 +83,7 @@ pub struct CellTally {
 }
 
 // The counts of a rectangle.
-#[derive(Drop)]
+#[derive(Clone, Copy)]
 pub enum CellTallyAnswer {
     Of(CellTally),
     Outside,

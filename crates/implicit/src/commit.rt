@@ -15,7 +15,7 @@ use plan::{is_incomplete, is_marking};
 use queue::{Appended, Block, Last};
 
 // What queueing children changes in the record: the next number, the bytes used, and what is remembered of the last one queued.
-#[derive(Drop)]
+#[derive(Clone, Copy)]
 pub(crate) struct Behind {
     pub queued: u64,
     pub used: usize,
@@ -23,7 +23,7 @@ pub(crate) struct Behind {
 }
 
 // What a child leaves: a queued one is remembered, and so many bytes are used.
-#[derive(Drop)]
+#[derive(Clone, Copy)]
 enum Carried {
     Queued { last: Last, used: usize },
     Nothing,

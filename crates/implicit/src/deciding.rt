@@ -18,7 +18,7 @@ use queue::{Block, DirectionAt, Last, Peeked};
 use refusal::Refusal;
 
 // What a step is carried out with: the front block, the head and the use once it is taken, how it is cut, and the outcomes of its children.
-#[derive(Drop)]
+#[derive(Clone, Copy)]
 pub(crate) struct Decided {
     pub block: Block,
     pub head: usize,
@@ -28,14 +28,14 @@ pub(crate) struct Decided {
 }
 
 // How a check went.
-#[derive(Drop)]
+#[derive(Clone, Copy)]
 pub(crate) enum Check {
     Passed,
     Refused(Refusal),
 }
 
 // That, or why the step is refused: then what is decided has no meaning. A struct, since an enum holds no array.
-#[derive(Drop)]
+#[derive(Clone, Copy)]
 pub(crate) struct Choice {
     pub check: Check,
     pub decided: Decided,

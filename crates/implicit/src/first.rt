@@ -18,7 +18,7 @@ use queue::{
 };
 
 // The first blocks before they are listed: the whole block, and the pieces that each parameter is cut into.
-#[derive(Drop)]
+#[derive(Clone, Copy)]
 pub(crate) struct Product {
     root: Block,
     m: PiecesAnswer,
@@ -28,14 +28,14 @@ pub(crate) struct Product {
 }
 
 // A first block of which some pieces are picked, and the number that picks the others.
-#[derive(Drop)]
+#[derive(Clone, Copy)]
 struct Picked {
     block: Block,
     left: usize,
 }
 
 // What is remembered of the last block queued, and the bytes used.
-#[derive(Drop)]
+#[derive(Clone, Copy)]
 pub(crate) struct Behind {
     pub(crate) back: Last,
     pub(crate) used: usize,

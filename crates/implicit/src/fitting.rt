@@ -14,7 +14,7 @@ use queue::{Block, FOUR_CODES, Last, Measured};
 use refusal::Refusal;
 
 // How many children are queued so far, their bytes, and what is remembered of the last of them.
-#[derive(Drop)]
+#[derive(Clone, Copy)]
 struct Size {
     queued: u64,
     total: usize,

@@ -1,5 +1,7 @@
 // The refinement of implicit graphs: setup, children, step, run, one step of a run, picture, counts and a move of the queue over a record by value, a lent ring and lent cells.
 // Document 01, "Picture and step" and "Numbers of refusal"; from the Rust's graph/implicit.rs. Every entry takes all numbers and buffers, and refuses by number.
+#![tactic(auto)]
+
 mod commit;
 mod deciding;
 mod first;

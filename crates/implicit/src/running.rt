@@ -13,7 +13,7 @@ use image::{CellKind, Seen};
 use refusal::Refusal;
 
 // How far a run is: the record that its steps leave, what they took, and, once it is over, how it ended.
-#[derive(Drop)]
+#[derive(Clone, Copy)]
 pub(crate) struct Progress {
     pub state: State,
     pub steps: u64,

@@ -12,7 +12,7 @@ use queue::{are_parameters_legal, starting_last};
 use refusal::Refusal;
 
 // Whether a setup begins.
-#[derive(Drop)]
+#[derive(Clone, Copy)]
 pub(crate) enum SetupEnd {
     Rejected(Refusal),
     Begun,

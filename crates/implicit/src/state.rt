@@ -8,7 +8,7 @@ use refusal::Refusal;
 // `taken` is the number of the front block, `queued` that of the next new one. Of the ring's `len` bytes, `used` from `head` on hold the queue.
 // `front` and `back` are the remembered values of the last block taken and of the last one queued.
 #[repr(C)]
-#[derive(Drop)]
+#[derive(Clone, Copy)]
 pub struct State {
     pub chosen: Chosen,
     pub taken: u64,
@@ -22,7 +22,7 @@ pub struct State {
 
 // The ranges that the parameters are given; those of parameters that are not used are not looked at.
 #[repr(C)]
-#[derive(Drop)]
+#[derive(Clone, Copy)]
 pub struct Ranges {
     pub m: Interval,
     pub n: Interval,
@@ -31,28 +31,28 @@ pub struct Ranges {
 }
 
 // A setup's answer.
-#[derive(Drop)]
+#[derive(Clone, Copy)]
 pub enum SetupAnswer {
     Ready(State),
     Refused(Refusal),
 }
 
 // How many bytes a ring needs, so that a setup begins, or so many steps behind it.
-#[derive(Drop)]
+#[derive(Clone, Copy)]
 pub enum NeededAnswer {
     Bytes(usize),
     Refused(Refusal),
 }
 
 // A move's answer: the record over the other ring; or why not, with the record as it was given.
-#[derive(Drop)]
+#[derive(Clone, Copy)]
 pub enum MoveAnswer {
     Done(State),
     Refused { why: Refusal, state: State },
 }
 
 // A step's answer: the record it leaves, its evaluations and the verdict bytes it took; or why not, with the record as it was given.
-#[derive(Drop)]
+#[derive(Clone, Copy)]
 pub enum StepAnswer {
     Finished {
         state: State,
@@ -66,7 +66,7 @@ pub enum StepAnswer {
 }
 
 // How a run ends.
-#[derive(Drop)]
+#[derive(Clone, Copy)]
 pub enum Ending {
     // The queue is empty and no pixel is given up.
     Done,
@@ -79,7 +79,7 @@ pub enum Ending {
 }
 
 // A run's answer: the record that its finished steps leave, their number, evaluations and tape bytes, and the ending; or why it did not begin.
-#[derive(Drop)]
+#[derive(Clone, Copy)]
 pub enum RunAnswer {
     Ended {
         state: State,
@@ -95,14 +95,14 @@ pub enum RunAnswer {
 }
 
 // Whether a call was done.
-#[derive(Drop)]
+#[derive(Clone, Copy)]
 pub enum CallAnswer {
     Done,
     Refused(Refusal),
 }
 
 // The children of the front block, for the evaluator; none where the listing is refused.
-#[derive(Drop)]
+#[derive(Clone, Copy)]
 pub struct ChildrenAnswer {
     pub answer: CallAnswer,
     pub children: Children,
@@ -110,7 +110,7 @@ pub struct ChildrenAnswer {
 
 // Pixels by reading, given-up cells (these are uncertain too), queued blocks, and the settled pixels in thousandths.
 #[repr(C)]
-#[derive(Drop)]
+#[derive(Clone, Copy)]
 pub struct Tally {
     pub trues: u64,
     pub falses: u64,
@@ -121,7 +121,7 @@ pub struct Tally {
 }
 
 // The counts' answer.
-#[derive(Drop)]
+#[derive(Clone, Copy)]
 pub enum CountsAnswer {
     Of(Tally),
     Refused(Refusal),

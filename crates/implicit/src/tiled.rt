@@ -23,7 +23,7 @@ use queue::{Block, Peeked};
 use refusal::Refusal;
 
 // The pixels that a step's block covers, where no cell in a tile that it touches is damaged; or why the step is refused.
-#[derive(Drop)]
+#[derive(Clone, Copy)]
 enum Touched {
     At(PixelRange),
     Refused(Refusal),

@@ -239,6 +239,11 @@ above_neg (fin false m e) h = absurd (none (m * up e * 1) (0 * 1 * down e) (zero
     none : (a b : ℕ) → b ≡ 0 → a < b → ⊥
     none a b e h = omega arith
 
+-- a number is negated by its sign
+neg_of : (s : Bool) (m : ℕ) (e : ℤ) → neg (fin s m e) ≡ fin (not s) m e
+unfolding neg
+neg_of s m e = refl
+
 -- rounding to whole mirrors
 pub near_neg : (x : Float) → T (fits binary64 x) → plus_zero (neg (whole_near (neg x))) ≡ whole_near x
 near_neg nan f = unfold whole_near neg zero_as in refl
@@ -253,7 +258,7 @@ near_neg (fin s m e) f = mirrored ∙ sym (whole_at s m e p)
     X = p.m * 2 ^ p.j
 
     negated : neg (fin s m e) ≡ fin (not s) m e
-    negated = unfold neg in refl
+    negated = neg_of s m e
 
     mirrored : plus_zero (neg (whole_near (neg (fin s m e)))) ≡ plus_zero (round binary64 s (half_up X) 1)
     mirrored =

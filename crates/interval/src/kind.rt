@@ -13,7 +13,7 @@ use crate::float::{half_sum, is_finite, plus_zero, whole_if};
 const MAX: f64 = 1.7976931348623157e308;
 
 // Which ends are finite, with those that are.
-#[derive(Drop)]
+#[derive(Clone, Copy)]
 pub enum Kind {
     Whole,
     UpTo(f64),

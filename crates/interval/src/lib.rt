@@ -2,6 +2,8 @@
 // From the Rust's block.rs (`IntegerParameter`, `RealParameter`, `subdivision_point`) and graph/common.rs (`simple_fraction`).
 // Here stand the types and what other crates call: each function takes every pair of bounds, refuses by 3 what is no
 // interval, and puts the zeros first, -0 below and +0 above.
+#![tactic(auto)]
+
 ghost use Rattle.std.specs.Prelude.{◌≡◌, false, from_bits, to_bits};
 ghost use Rattle.std.specs.Float.{binary64};
 ghost use Rattle.interval.specs.Answers.{point_answer, whether_at, pieces_at, answer_from_bits};
@@ -22,21 +24,21 @@ pub use float::{is_finite, next_above, next_below};
 
 // The bounds of an interval.
 #[repr(C)]
-#[derive(Drop)]
+#[derive(Clone, Copy)]
 pub struct Interval {
     pub lower: f64,
     pub upper: f64,
 }
 
 // A point of an interval.
-#[derive(Drop)]
+#[derive(Clone, Copy)]
 pub enum PointAnswer {
     At(f64),
     Refused(Refusal),
 }
 
 // What a cut gives, in order.
-#[derive(Drop)]
+#[derive(Clone, Copy)]
 pub enum PiecesAnswer {
     One(Interval),
     Two(Interval, Interval),
@@ -45,7 +47,7 @@ pub enum PiecesAnswer {
 }
 
 // The interval that two bit patterns stand for.
-#[derive(Drop)]
+#[derive(Clone, Copy)]
 pub enum BitsAnswer {
     Bounds(Interval),
     Refused(Refusal),

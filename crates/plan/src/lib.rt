@@ -1,5 +1,7 @@
 // What becomes of each child under its verdict, decided from the cells as given, before anything is written: only the outcomes are remembered.
 // Document 01, "Picture and step"; from the Rust's `process_block`. There is no ring here, and no cell is written.
+#![tactic(auto)]
+
 ghost use Rattle.std.specs.Prelude.{◌≡◌, ◌≤◌, ◌<◌, min};
 ghost use Rattle.decide.specs.Verdict.{cost_of, is_marking, is_incomplete};
 ghost use Rattle.plan.specs.AtOnce.{alike_along, true_at, outcome_at, judged_of};
@@ -12,7 +14,7 @@ use queue::{Block, Direction, DirectionAt};
 
 // The outcome of a child: a struct, since an array in a struct holds structs and no bare enums.
 #[repr(C)]
-#[derive(Drop)]
+#[derive(Clone, Copy)]
 pub struct Noted {
     pub outcome: Outcome,
 }
@@ -20,7 +22,7 @@ pub struct Noted {
 // The outcomes of the children in order, Skipped in the places behind them; how many are incomplete, the evaluations of them all, whether one marks its
 // pixels, and whether every verdict is legal.
 #[repr(C)]
-#[derive(Drop)]
+#[derive(Clone, Copy)]
 pub struct Judged {
     pub at: [Noted; 4],
     pub incomplete: usize,

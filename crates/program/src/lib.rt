@@ -2,12 +2,13 @@
 // pixel of it is read, and the answer is written, document 02, (v).
 // No contract can speak of what is read or written. The buffers are lent, so that what can be said is: the text of the bytes that were read
 // is what was handed to be written. The rest is played by `replay_sheets`, on files.
+#![tactic(auto)]
 ghost use Rattle.std.specs.Prelude.{◌≡◌, ◌++◌, ◌≤◌, length, take, drop};
 ghost use Rattle.sheet.specs.Printed.{text_of};
 ghost use Rattle.sheet.specs.Why.{why_of};
 
 // How many bytes of the sheet, or of the question, were read, and how many of its text were handed to be written.
-#[derive(Drop)]
+#[derive(Clone, Copy)]
 pub struct Charted {
     pub read: usize,
     pub written: usize,

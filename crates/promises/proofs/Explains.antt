@@ -118,17 +118,17 @@ module _ (p : Chosen) {w₀ : World} (h : Reached p w₀) where
 -- ---- the block that waits
 
 -- behind so many others the ring gives the block that stands there
-behind_is : (ring : List ℕ) (set head used : ℕ) (front back : Last) (before : List Block) (b : Block) (behind : List Block)
+behind_is : (ring : List ℕ) (set : ℕ) (before : List Block) (head used : ℕ) (front back : Last) (b : Block) (behind : List Block)
     → fits_ring (length ring) head used ≡ true → BytesHold set front back (content ring head used) (before ++ (b ∷ behind))
     → block_behind (length before) ring set (taken ring head used set front) ≡ b
 unfolding block_behind
-behind_is ring set head used front back [] b behind f h = rw (take_answers ring head used set f h).0
-behind_is ring set head used front back (c ∷ before) b behind f h =
+behind_is ring set [] head used front back b behind f h = rw (take_answers ring head used set f h).0
+behind_is ring set (c ∷ before) head used front back b behind f h =
     let (e, k, r) = take_answers ring head used set f h in
     let (inside, less) = take_frees ring head used set f front c (remembered c) _ _ e in
     let g = fits_both (length ring) head used f in
     rw e
-    (behind_is ring set _ _ (remembered c) back before b behind
+    (behind_is ring set before _ _ (remembered c) back b behind
     (and_both (ltb _ (length ring)) (leb _ (length ring)) (lt-ltb _ (length ring) inside) (le-leb _ (length ring) (omega (arith, less, g.1)))) r)
 
 -- ---- the reason is right
@@ -146,7 +146,7 @@ module _ (a : Asked) {w₀ : World} (z : BegunAs a w₀) where
       let k = o.keeps in
       let s = w.state in
       rw n
-      (behind_is w.ring s.chosen.set s.head s.used s.front s.back y.last.before y.last.this y.last.behind
+      (behind_is w.ring s.chosen.set y.last.before s.head s.used s.front s.back y.last.this y.last.behind
       (keeps_fits w o.blocks k)
       (subst (BytesHold s.chosen.set s.front s.back (content w.ring s.head s.used)) e k.holds)
       ∙ sym y.block_is)

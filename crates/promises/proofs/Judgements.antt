@@ -111,12 +111,12 @@ module _ (next : Block → Turned) where
 
   -- ---- children and verdicts
 
-  each : (p : Chosen) (l : List Cell) (cs : List Block) (vs : List ℕ) → length vs ≡ length cs
+  each : (p : Chosen) (cs : List Block) (vs : List ℕ) (l : List Cell) → length vs ≡ length cs
       → map judged_child (judgements_with next cs vs (outcomes p l cs vs)) ≡ cs
   unfolding judgements_with outcomes judged_child
-  each p l [] vs h = refl
-  each p l (c ∷ cs) [] h = absurd (omega arith)
-  each p l (c ∷ cs) (v ∷ vs) h = ap (λ (ds : List Block). c ∷ ds) (each p _ cs vs (omega arith))
+  each p [] vs l h = refl
+  each p (c ∷ cs) [] l h = absurd (omega arith)
+  each p (c ∷ cs) (v ∷ vs) l h = ap (λ (ds : List Block). c ∷ ds) (each p cs vs _ (omega arith))
 
   -- what becomes of a child that is looked at follows from its outcome
   follows_outcome : (p : Chosen) → ((c d : Block) → next c ≡ T.To d → d ≡ turned_to c d.dir) → (c : Block) (o : Outcome)
@@ -138,12 +138,12 @@ module _ (next : Block → Turned) where
   follows_one p same c v true = tt
   follows_one p same c v false = rw (said_outcome c.x.rank v) (follows_outcome p same c (verdict_outcome c.x.rank v))
 
-  follows : (p : Chosen) → ((c d : Block) → next c ≡ T.To d → d ≡ turned_to c d.dir) → (l : List Cell) (cs : List Block) (vs : List ℕ)
+  follows : (p : Chosen) → ((c d : Block) → next c ≡ T.To d → d ≡ turned_to c d.dir) → (cs : List Block) (vs : List ℕ) (l : List Cell)
       → Every (Follows (cutting_of p)) (judgements_with next cs vs (outcomes p l cs vs))
   unfolding judgements_with outcomes
-  follows p same l [] vs = tt
-  follows p same l (c ∷ cs) [] = tt
-  follows p same l (c ∷ cs) (v ∷ vs) = (follows_one p same c v (all_true p c l), follows p same _ cs vs)
+  follows p same [] vs l = tt
+  follows p same (c ∷ cs) [] l = tt
+  follows p same (c ∷ cs) (v ∷ vs) l = (follows_one p same c v (all_true p c l), follows p same cs vs _)
 
 -- ---- skipping
 
@@ -234,12 +234,12 @@ module _ (p : Chosen) (b : Block) (l : List Cell) (vs : List ℕ) where
   -- a judgement for each child
   pub judgements_children : length vs ≡ length (children_of p b) → map judged_child (judgements_of p b l vs) ≡ children_of p b
   unfolding judgements_of
-  judgements_children h = each next_of p l (children_of p b) vs h
+  judgements_children h = each next_of p (children_of p b) vs l h
 
   -- what becomes of each follows from its byte
   pub judgements_follow : Every (Follows (cutting_of p)) (judgements_of p b l vs)
   unfolding judgements_of
-  judgements_follow = follows next_of p (λ c d e. (turns p b (incomplete_count os) c d e).same) l (children_of p b) vs
+  judgements_follow = follows next_of p (λ c d e. (turns p b (incomplete_count os) c d e).same) (children_of p b) vs l
 
   -- the step's events are theirs
   pub judgements_events : length vs ≡ length (children_of p b)

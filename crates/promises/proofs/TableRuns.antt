@@ -89,7 +89,9 @@ unfolding tiled_run_from table_run_from
 run_from_tiled zero w tape t room e = cases (queue_empty w.state) (λ q. rw q no_tiled_steps) (λ q. rw q no_tiled_steps)
 run_from_tiled (suc left) w tape t room e =
     cases (queue_empty w.state) (λ q. rw q no_tiled_steps)
-    (λ q. rw (← e, q) (gone_tiled left w tape t (tiled_tape_step_of (length t) w tape) refl (λ v l u h. run_from_tiled left v l u (length t) h)))
+    (λ q.
+    let P : ℕ → Type 0 = λ r. (let e = tiled_run_from r (suc left) w tape in TiledSteps e.steps w t e.world (table_run_from (suc left) w tape t)) in
+    subst P e (rw q (gone_tiled left w tape t (tiled_tape_step_of (length t) w tape) refl (λ v l u h. run_from_tiled left v l u (length t) h))))
 
 tiled_has_run : (budget room : ℕ) (w : World) (tape : List ℕ) (e : RunEnd) → tiled_run_of budget room w tape ≡ has_run e → e ≡ tiled_run_from room budget w tape
 unfolding tiled_run_of

@@ -122,12 +122,12 @@ module _ (p : Chosen) {w : World} (h : Reached p w) where
 
 -- ---- nothing is left out of it
 
-children_answered : (p : Chosen) (l : List Cell) (cs : List Block) (vs : List ℕ) → length vs ≡ length cs
+children_answered : (p : Chosen) (cs : List Block) (vs : List ℕ) (l : List Cell) → length vs ≡ length cs
     → map (λ (a : Answered). a.child) (answered_by cs vs (outcomes p l cs vs)) ≡ cs
 unfolding answered_by outcomes
-children_answered p l [] vs n = refl
-children_answered p l (c ∷ cs) [] n = absurd (omega arith)
-children_answered p l (c ∷ cs) (v ∷ vs) n = ap (λ (ds : List Block). c ∷ ds) (children_answered p _ cs vs (omega arith))
+children_answered p [] vs l n = refl
+children_answered p (c ∷ cs) [] l n = absurd (omega arith)
+children_answered p (c ∷ cs) (v ∷ vs) l n = ap (λ (ds : List Block). c ∷ ds) (children_answered p cs vs _ (omega arith))
 
 -- the answers of a step are about all children of its block
 abbrev pub OfAllChildren : Chosen → PastStep → Type 0
@@ -145,7 +145,7 @@ module _ (p : Chosen) {w : World} (h : Reached p w) where
       one n past l (counted, all) = (
         ap suc counted,
         (
-          rw l.chosen (children_answered p (meanings w'.cells) (children_of p l.step.front) vs l.verdicts),
+          rw l.chosen (children_answered p (children_of p l.step.front) vs (meanings w'.cells) l.verdicts),
           all,
         ),
       )

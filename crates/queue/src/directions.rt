@@ -5,7 +5,7 @@ ghost use Rattle.queue.specs.Directions.{in_use, directions, direction_at, used_
 ghost use Rattle.queue.specs.DirectionsComputed.{ones};
 
 // The ways to cut a block: both coordinates at once, or one parameter.
-#[derive(Drop)]
+#[derive(Clone, Copy)]
 pub enum Direction {
     XY,
     M,
@@ -15,7 +15,7 @@ pub enum Direction {
 }
 
 // The direction at a place of the list of those in use.
-#[derive(Drop)]
+#[derive(Clone, Copy)]
 pub enum DirectionAt {
     Along(Direction),
     Beyond,

@@ -1,6 +1,8 @@
 // The block queue over a lent ring of bytes. Document 01, "The queue's bytes"; from the Rust's block.rs (`Block`, `BlockQueue`).
 // Here stand the types and what other crates call: each function takes every number and every ring, and what cannot be done
 // is a case of its answer that changes nothing.
+#![tactic(auto)]
+
 ghost use Rattle.std.specs.Prelude.{◌≡◌, length};
 ghost use Rattle.queue.specs.Queue.{taken, taken_by, copied, copied_ring};
 
@@ -38,7 +40,7 @@ pub const FOUR_CODES: usize = 332;
 
 // A block: its square of the picture, its part of each parameter's range, and the place of its direction in the list of those in use.
 #[repr(C)]
-#[derive(Drop)]
+#[derive(Clone, Copy)]
 pub struct Block {
     pub x: Coordinate,
     pub y: Coordinate,
@@ -51,7 +53,7 @@ pub struct Block {
 
 // The remembered values, which a block's code leans on: those of the last block queued, or of the last one taken.
 #[repr(C)]
-#[derive(Drop)]
+#[derive(Clone, Copy)]
 pub struct Last {
     pub x: u64,
     pub y: u64,
@@ -62,7 +64,7 @@ pub struct Last {
 }
 
 // The front block as it is read, and the head and the use once it is taken.
-#[derive(Drop)]
+#[derive(Clone, Copy)]
 pub enum Peeked {
     Front {
         block: Block,
@@ -76,7 +78,7 @@ pub enum Peeked {
 }
 
 // The front block taken: what is remembered of it, and the head and the use afterwards.
-#[derive(Drop)]
+#[derive(Clone, Copy)]
 pub enum Taken {
     Front {
         block: Block,
@@ -91,7 +93,7 @@ pub enum Taken {
 }
 
 // A block appended: what is remembered of it, and the use afterwards.
-#[derive(Drop)]
+#[derive(Clone, Copy)]
 pub enum Appended {
     Done { last: Last, used: usize },
     // Its code does not fit behind the bytes used.
@@ -103,7 +105,7 @@ pub enum Appended {
 }
 
 // How many bytes a block's code takes, and what is remembered once it is queued.
-#[derive(Drop)]
+#[derive(Clone, Copy)]
 pub enum Measured {
     Bytes { count: usize, last: Last },
     // The block cannot be queued, or a remembered index is none that a block has.
@@ -111,7 +113,7 @@ pub enum Measured {
 }
 
 // The queue's bytes copied to another ring.
-#[derive(Drop)]
+#[derive(Clone, Copy)]
 pub enum Copied {
     Done,
     // They do not fit the other ring, or it has no byte.

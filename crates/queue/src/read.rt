@@ -17,14 +17,14 @@ use interval::{BitsAnswer, Interval, whole_line};
 use small::ReadAnswer;
 
 // A level's rank.
-#[derive(Drop)]
+#[derive(Clone, Copy)]
 enum LevelRead {
     Rank(u8),
     Damaged,
 }
 
 // A coordinate, and how many bytes it took.
-#[derive(Drop)]
+#[derive(Clone, Copy)]
 enum CoordinateRead {
     Read {
         coordinate: Coordinate,
@@ -34,14 +34,14 @@ enum CoordinateRead {
 }
 
 // A parameter, and how many bytes it took.
-#[derive(Drop)]
+#[derive(Clone, Copy)]
 pub enum ParameterRead {
     Read { interval: Interval, count: usize },
     Damaged,
 }
 
 // A block, and how many bytes it took.
-#[derive(Drop)]
+#[derive(Clone, Copy)]
 pub enum BlockRead {
     Read { block: Block, count: usize },
     Damaged,

@@ -1,9 +1,11 @@
 // The refusals of document 01's table and of document 02's requests, one case a number, and the answers that only say yes or no.
+#![tactic(auto)]
+
 ghost use Rattle.std.specs.Prelude.{◌≡◌};
 ghost use Rattle.refusal.specs.Number.{number};
 
 // Why a call is refused. `number` in specs/ gives each its number.
-#[derive(Drop)]
+#[derive(Clone, Copy)]
 pub enum Refusal {
     // 1: a side is 0 or over 32768.
     Side,
@@ -70,7 +72,7 @@ pub fn number_of(r: Refusal) -> u8
 }
 
 // The answer to a question that can be refused.
-#[derive(Drop)]
+#[derive(Clone, Copy)]
 pub enum Whether {
     Yes,
     No,

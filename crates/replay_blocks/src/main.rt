@@ -1,5 +1,6 @@
 // Replays block sequences against expected bytes: the records of the file `cases`, each a length byte and so many bytes, in order.
 // make.py beside this folder's data/ says what a record holds; it computes what is expected by itself, from document 01.
+#![tactic(auto)]
 ghost use Rattle.std.specs.Prelude.{◌≡◌, ◌+◌, ◌^◌, ◌≤◌, ◌<◌, min, length, take, drop};
 ghost use Rattle.replay_blocks.specs.Record.{same_measure};
 ghost use Rattle.replay_blocks.specs.Replay.{same_appended, same_taken, measure_agrees, append_agrees, take_agrees, ring_agrees, agrees};
@@ -11,7 +12,7 @@ use record::{block_at, last_at, number_at, place, same_block, same_last};
 mod record;
 
 // The queue under test: its set, the ring's length, head and use, and what its two sides remember.
-#[derive(Drop)]
+#[derive(Clone, Copy)]
 struct Tested {
     set: u8,
     len: usize,
@@ -22,7 +23,7 @@ struct Tested {
 }
 
 // How many records agreed, differed, and only set the queue up.
-#[derive(Drop)]
+#[derive(Clone, Copy)]
 struct Score {
     agree: u64,
     differ: u64,
@@ -30,14 +31,14 @@ struct Score {
 }
 
 // The queue after a record, and whether the record agreed.
-#[derive(Drop)]
+#[derive(Clone, Copy)]
 struct Played {
     queue: Tested,
     ok: bool,
 }
 
 // The replay: the queue, and the counts.
-#[derive(Drop)]
+#[derive(Clone, Copy)]
 struct Replayed {
     queue: Tested,
     tally: Score,

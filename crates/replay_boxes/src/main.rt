@@ -1,5 +1,6 @@
 // Asks `boxes` the questions of data/boxes and prints its answers, a line each; the file stdout has what they must be.
 // make.py, beside src/, says how both were made and what a question looks like.
+#![tactic(auto)]
 ghost use Rattle.std.specs.Prelude.{◌≡◌, ◌+◌, ◌*◌, ◌%◌, ◌<◌, ◌≤◌};
 ghost use Rattle.replay_boxes.specs.Question.{four_bytes_at, question_word, bounds_at, coordinate_at, padding_in, edges_in, plot_in};
 

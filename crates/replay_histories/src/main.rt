@@ -4,6 +4,7 @@
 // other ring). An entry of the list names a call, changes the tables to what the call is given, and changes them to what it must leave. The call works on
 // copies of them, which are then compared with the tables, every word and every byte. make.py beside this folder writes the list, tables.py says where each
 // thing stands.
+#![tactic(auto)]
 ghost use Rattle.std.specs.Prelude.{◌≡◌, ◌+◌, ◌≤◌, ◌<◌, length};
 ghost use Rattle.replay_histories.specs.Counting.{calls, closed, Same, CountedBy};
 ghost use Rattle.replay_histories.specs.Words.{WordTable, ByteTable};

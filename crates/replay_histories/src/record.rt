@@ -117,7 +117,7 @@ fn length_at(w: &[u64], at: usize, most: usize) -> usize
 }
 
 // Where what a call is lent ends: the ring, the verdicts, the picture and the other ring among the bytes, the cells among the words; and how many tile counts.
-#[derive(Drop)]
+#[derive(Clone, Copy)]
 pub(crate) struct Ends {
     pub ring: usize,
     pub cells: usize,

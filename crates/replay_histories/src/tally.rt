@@ -6,7 +6,7 @@ use crate::list::say_title;
 use crate::tables::{are_same, say_byte, say_word};
 
 // Calls that agreed and that differed, in this part of the list and in those before it.
-#[derive(Drop)]
+#[derive(Clone, Copy)]
 pub(crate) struct CallScore {
     pub agree: u64,
     pub differ: u64,

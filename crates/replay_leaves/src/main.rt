@@ -1,5 +1,6 @@
 // Asks the leaf crates the questions of data/leaves and prints their answers, a line each; the file stdout has what they must be.
 // make.py, beside src/, says how both were made and what a question looks like.
+#![tactic(auto)]
 ghost use Rattle.std.specs.Prelude.{◌+◌, ◌≤◌, length, take, drop, ◌≡◌};
 ghost use Rattle.base.specs.Bytes.{of_big_endian};
 

@@ -1,5 +1,6 @@
 // Replays the rectangles of standard input and prints what `image` answers and leaves of each. A case is 56 words of 64 bits, the least
 // significant byte first; make.py, beside this crate's folders, says which, writes them, and works out what is to be printed.
+#![tactic(auto)]
 ghost use Rattle.std.specs.Prelude.{◌≡◌, ◌+◌, ◌*◌, ◌<◌, ◌≤◌};
 ghost use Rattle.replay_rectangles.specs.Word.{half_at, case_word};
 

@@ -2,6 +2,7 @@
 // length; the file stdout has what must come. Nothing is counted or compared here. By the length a text that went elsewhere is missed.
 // data/sheets has how many there are in two bytes, the higher first, then for each its length in two and its bytes. make.py, beside this
 // crate's folders, works out by itself what they print, from documents 01 and 02.
+#![tactic(auto)]
 ghost use Rattle.std.specs.Prelude.{◌≡◌, ◌+◌, ◌*◌, ◌≤◌, ◌<◌, length};
 
 fn place(b: u8) -> usize

@@ -9,7 +9,7 @@ use interval::{Interval, float_of};
 use queue::{Direction, is_used, whole_line};
 
 // Where the ranges of n, n_theta and t stand, and the tape behind them.
-#[derive(Drop)]
+#[derive(Clone, Copy)]
 struct Places {
     n: usize,
     theta: usize,
@@ -18,7 +18,7 @@ struct Places {
 }
 
 // What a sheet asks for, and where its tape begins.
-#[derive(Drop)]
+#[derive(Clone, Copy)]
 pub(crate) struct Order {
     pub chosen: Chosen,
     pub budget: u32,

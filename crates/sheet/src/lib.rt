@@ -1,5 +1,7 @@
 // A sheet's chart: the program's whole work, from the bytes of a sheet to the text that is printed.
 // Document 01, "Program and values". The ring, the cells and the picture are arrays of this crate, so that none can be short.
+#![tactic(auto)]
+
 mod head;
 mod why;
 mod write;

@@ -1,5 +1,7 @@
 // Small numbers: the code of a number below 2^56 in one to eight bytes, written and read.
 // specs/Small.antt draws the code and says what each function answers.
+#![tactic(auto)]
+
 ghost use Rattle.std.specs.Prelude.{◌≡◌, ◌≤◌, length};
 ghost use Rattle.base.specs.Bytes.{of_little_endian};
 ghost use Rattle.small.specs.Small.{tail_of, code_of, read_small};
@@ -7,7 +9,7 @@ ghost use Rattle.small.specs.Small.{tail_of, code_of, read_small};
 use refusal::Refusal;
 
 // A number's code, or why it has none.
-#[derive(Drop)]
+#[derive(Clone, Copy)]
 pub enum CodeAnswer {
     // The head byte, then the `count` low bytes of `tail`, lowest first.
     Code { head: u8, tail: u64, count: usize },
@@ -15,14 +17,14 @@ pub enum CodeAnswer {
 }
 
 // How many tail bytes a number takes, or why it has no code.
-#[derive(Drop)]
+#[derive(Clone, Copy)]
 enum Tail {
     Bytes(u32),
     Refused(Refusal),
 }
 
 // What stands at the front of some bytes.
-#[derive(Drop)]
+#[derive(Clone, Copy)]
 pub enum ReadAnswer {
     // A number, and how many bytes its code takes.
     Number { x: u64, count: usize },

@@ -2,6 +2,8 @@
 // Document 02, (iv). Tiles count row by row from the top left, and those at the right and bottom edge may be smaller.
 // What takes a rectangle takes any, and any cells and table: where the rectangle leaves the picture, or the cells or the table are too few, it
 // changes nothing and says so, and what lies beyond the tiles' numbers is never touched.
+#![tactic(auto)]
+
 ghost use Rattle.std.specs.Prelude.{◌≡◌, true, ◌||◌, ◌<◌, min, eqb, length};
 ghost use Rattle.image.specs.Range.{in_picture, picture_ready};
 ghost use Rattle.tiles.specs.Tiles.{tiles_along, tile_count, touched_tiles, touched_damaged, recountable, table_recounted};

@@ -1,0 +1,8 @@
+-- `float::is_nan_pattern` meets its contract. Assumes nothing.
+use Rattle.std.proofs.Common.{sym}
+use lib.Ieee.{binary64}
+use lib.Ieee.Bits.{nan_bits_above}
+use Rattle.interval.proofs.float.is_nan_pattern.Goals as goal
+
+pub returns : goal.returns
+returns c = sym (nan_bits_above binary64 c.args.w)

@@ -1,0 +1,50 @@
+-- `put_straight` meets its contract. Assumes nothing.
+use mathlib.Core.Path.{◌∙◌}
+use native.Mathlib.Omega.{arith}
+use lib.ListN.{length-set}
+use Rattle.queue.proofs.WriteLaws.{coordinate_few}
+use Rattle.queue.proofs.PlainLaws.{placed, plain_put}
+use Rattle.queue.proofs.appending.put_straight.Goals as goal
+
+pub put_coordinate-middle-requires : goal.put_coordinate-middle-requires
+put_coordinate-middle-requires c =
+    let p = placed c.args.back c.args.b c.requires.1 in
+    (omega (arith, c.requires.0), p.1, p.0.x.bound, p.0.x.high)
+
+pub put_coordinate-end-requires : goal.put_coordinate-end-requires
+put_coordinate-end-requires c =
+    let a = c.args in
+    let p = placed a.back a.b c.requires.1 in
+    let w = c.put_coordinate-middle in
+    let few = coordinate_few a.back.x a.b.x p.1 p.0.x.bound in
+    (omega (arith, c.requires.0, w.ensures.0, w.auto.out, few), p.2, p.0.y.bound, p.0.y.high)
+
+pub bounds-ring-end : goal.bounds-ring-end
+bounds-ring-end c =
+    let a = c.args in
+    let p = placed a.back a.b c.requires.1 in
+    let w = c.put_coordinate-middle in
+    let v = c.put_coordinate-end in
+    let few = coordinate_few a.back.x a.b.x p.1 p.0.x.bound in
+    let few2 = coordinate_few a.back.y a.b.y p.2 p.0.y.bound in
+    omega (arith, c.requires.0, w.ensures.0, w.auto.out, v.ensures.0, v.auto.out, few, few2)
+
+pub overflow_add-result : goal.overflow_add-result
+overflow_add-result c =
+    let a = c.args in
+    let p = placed a.back a.b c.requires.1 in
+    let few = coordinate_few a.back.x a.b.x p.1 p.0.x.bound in
+    let few2 = coordinate_few a.back.y a.b.y p.2 p.0.y.bound in
+    omega (arith, c, c.requires.0, c.put_coordinate-middle.ensures.0, c.put_coordinate-end.ensures.0, few, few2)
+
+pub shape_of-ring : goal.shape_of-ring
+shape_of-ring c =
+    simp length-set (c.put_coordinate-end.auto.out ∙ c.put_coordinate-middle.auto.out)
+
+pub returns : goal.returns
+returns c =
+    let a = c.args in
+    let w = c.put_coordinate-middle in
+    let v = c.put_coordinate-end in
+    plain_put a.back a.b a.ring.now w.new.out v.new.out a.from w.result v.result
+    w.ensures v.ensures

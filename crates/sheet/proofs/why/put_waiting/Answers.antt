@@ -1,0 +1,16 @@
+-- `why::put_waiting` meets its contract. Assumes nothing.
+use native.Mathlib.Omega.{arith}
+use Rattle.sheet.proofs.WritingLaws.{puts_then}
+use Rattle.sheet.proofs.why.put_waiting.Goals as goal
+
+pub returns : goal.returns
+returns c = (
+  puts_then (puts_then c.put_bytes-at.ensures
+      c.put_labelled-at.ensures.0) c.put_labelled.ensures.0,
+  omega (
+    arith,
+    c.put_bytes-at.ensures.place,
+    c.put_labelled-at.ensures.1,
+    c.put_labelled.ensures.1,
+  ),
+)

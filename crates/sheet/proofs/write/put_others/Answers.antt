@@ -1,0 +1,12 @@
+-- `write::put_others` meets its contract. Assumes nothing.
+use native.Mathlib.Omega.{arith}
+use Rattle.sheet.proofs.WritingLaws.{puts_then}
+use Rattle.sheet.specs.Text.{other_counts}
+use Rattle.sheet.proofs.write.put_others.Goals as goal
+
+pub returns : goal.returns
+unfolding other_counts
+returns c = (
+  puts_then (puts_then (puts_then c.put_labelled-at.ensures.0 c.put_labelled-at-2.ensures.0) c.put_labelled-at-3.ensures.0) c.put_bytes.ensures,
+  omega (arith, c.put_labelled-at.ensures.1, c.put_labelled-at-2.ensures.1, c.put_labelled-at-3.ensures.1, c.put_bytes.ensures.place),
+)
