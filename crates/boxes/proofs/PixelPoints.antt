@@ -2,7 +2,6 @@
 use mathlib.Core.Path.{◌≡◌, refl, sym, ap, ◌∙◌}
 use Prim.Native.Nat.{ℕ, ◌*◌, ◌^◌, ◌≤◌, ◌<◌}
 use native.Mathlib.Nat.{mul_assoc, mul_comm, one-mul, mul-one, mul-pos, zero-lt-suc, lt_of_le_of_lt, le_of_lt, mul-le-mul_right}
-use native.Mathlib.Omega.{arith}
 use mathlib.Core.Bool.{Bool, true, false}
 use lib.IntN.{ℤ, pos, ◌*ℤ◌}
 use lib.Dec.{T, le→leb, lit<}

@@ -23,7 +23,7 @@ use Rattle.queue.specs.Block.{is_integer, parameter_of, with_parameter}
 use Rattle.decide.specs.declared.Chosen.{Chosen}
 use Rattle.decide.specs.declared.children.Cut.{Cut}
 use Rattle.decide.specs.Damage.{sound, direction_of}
-use Rattle.decide.specs.Children.{moved_to, quarters_of, kept_inside, children_xy, children_cut, children_along, children_of, listed}
+use Rattle.decide.specs.Children.{moved_to, quarters_of, kept_inside, children_xy, children_cut, children_along, children_of}
 use Rattle.decide.specs.ChildAt.{half_of, place_along, place_of, piece_of, child_along, child_of, is_kept, right_listed, cut_of}
 use Rattle.decide.specs.ChildrenComputed.{quarter_count}
 use Rattle.decide.proofs.DamageLaws.{Placed, is_sound}

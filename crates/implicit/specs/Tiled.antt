@@ -1,6 +1,6 @@
 -- Document 02, (iv): setup, step and run that take a table of tile counts beside the picture, and the call that fills one. What they answer is what the
 -- calls without a table answer, but for 17 "just after 2", and "there 8 for the block also speaks of every cell in a touched tile".
-use Rattle.std.specs.Prelude.{◌≡◌, Bool, true, false, cond, not, ◌&&◌, List, ℕ, zero, suc, leb, ltb, length, drop}
+use Rattle.std.specs.Prelude.{◌≡◌, Bool, true, false, cond, ◌&&◌, List, ℕ, zero, suc, leb, ltb, length, drop}
 use Rattle.refusal.specs.declared.Refusal.TheVariants as R
 use Rattle.image.specs.declared.PixelRange.{PixelRange}
 use Rattle.image.specs.declared.Seen.{Seen}

@@ -12,7 +12,7 @@ use Rattle.base.specs.Lists.{Every}
 use Rattle.base.proofs.ListLaws.{every_also, every_both, every_map}
 use Rattle.coordinate.specs.declared.Coordinate.{Coordinate}
 use Rattle.coordinate.specs.Axis.{ordinary_floor, above_floor, inside}
-use Rattle.coordinate.specs.Lone.{legal, low_half, high_half}
+use Rattle.coordinate.specs.Lone.{low_half, high_half}
 use Rattle.coordinate.proofs.PixelLaws.{inside_pixel, inside_in_range, ranged}
 use Rattle.coordinate.proofs.CoverLaws.{half_pixel}
 use Rattle.interval.specs.declared.Interval.{Interval}

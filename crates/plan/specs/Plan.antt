@@ -2,7 +2,6 @@
 use Rattle.std.specs.Prelude.{Bool, cond, List, [], ◌∷◌, ◌++◌, ℕ, suc, ◌+◌}
 use Rattle.base.specs.Event.{Event, marks, queues, gives_up}
 use Rattle.image.specs.declared.Op.{Op}
-use Rattle.image.specs.declared.Op.TheVariants as Op
 use Rattle.image.specs.Cell.{Cell, is_marked}
 use Rattle.image.specs.Range.{rectangle_of}
 use Rattle.image.specs.Painting.{painted, every_of}

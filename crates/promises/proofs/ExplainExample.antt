@@ -9,7 +9,6 @@ use Rattle.refusal.specs.declared.Refusal.TheVariants as R
 use Rattle.implicit.specs.declared.state.Ending.TheVariants as E
 use Rattle.explain.specs.declared.reason.Reason.TheVariants as B
 use Rattle.explain.specs.declared.reason.Explanation.{Explanation}
-use Rattle.explain.specs.declared.reason.Explanation.TheVariants as Explanation
 use Rattle.explain.specs.Explained.{explained, ring_explained, cells_explained, beginning, pixel_inside, world_begun, reason_after}
 use lib.Count.{count_trailing_zeros, count_leading_zeros}
 use lib.Ieee.{fits, le}

@@ -29,14 +29,10 @@ use Rattle.decide.specs.declared.Chosen.{Chosen}
 use Rattle.implicit.specs.declared.state.Ranges.{Ranges}
 use Rattle.implicit.specs.declared.state.State.{State}
 use Rattle.implicit.specs.declared.state.SetupAnswer.{SetupAnswer}
-use Rattle.implicit.specs.declared.state.SetupAnswer.TheVariants as SetupAnswer
 use Rattle.implicit.specs.declared.state.StepAnswer.{StepAnswer}
-use Rattle.implicit.specs.declared.state.StepAnswer.TheVariants as StepAnswer
 use Rattle.implicit.specs.declared.state.Ending.{Ending}
 use Rattle.implicit.specs.declared.state.RunAnswer.{RunAnswer}
-use Rattle.implicit.specs.declared.state.RunAnswer.TheVariants as RunAnswer
 use Rattle.implicit.specs.declared.state.MoveAnswer.{MoveAnswer}
-use Rattle.implicit.specs.declared.state.MoveAnswer.TheVariants as MoveAnswer
 use Rattle.implicit.specs.declared.state.CallAnswer.{CallAnswer}
 use Rattle.implicit.specs.declared.state.Tally.{Tally}
 use Rattle.implicit.specs.declared.state.CountsAnswer.TheVariants as CountsAnswer

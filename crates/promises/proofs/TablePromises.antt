@@ -22,14 +22,10 @@ use Rattle.decide.specs.declared.Chosen.{Chosen}
 use Rattle.implicit.specs.declared.state.Ranges.{Ranges}
 use Rattle.implicit.specs.declared.state.State.{State}
 use Rattle.implicit.specs.declared.state.SetupAnswer.{SetupAnswer}
-use Rattle.implicit.specs.declared.state.SetupAnswer.TheVariants as SetupAnswer
 use Rattle.implicit.specs.declared.state.StepAnswer.{StepAnswer}
-use Rattle.implicit.specs.declared.state.StepAnswer.TheVariants as StepAnswer
 use Rattle.implicit.specs.declared.state.Ending.{Ending}
 use Rattle.implicit.specs.declared.state.RunAnswer.{RunAnswer}
-use Rattle.implicit.specs.declared.state.RunAnswer.TheVariants as RunAnswer
 use Rattle.implicit.specs.declared.state.CallAnswer.{CallAnswer}
-use Rattle.implicit.specs.declared.state.CallAnswer.TheVariants as CallAnswer
 use Rattle.implicit.specs.Record.{pixel_count, sound_record}
 use Rattle.implicit.specs.Setup.{cleared, setup_answer, ring_begun, cells_begun}
 use Rattle.implicit.specs.Listing.{front_of}

@@ -33,7 +33,6 @@ use Rattle.implicit.specs.Step.{World, world_of, refused, tape_step_of}
 use Rattle.implicit.specs.Run.{run_from}
 use Rattle.explain.specs.declared.reason.Reason.{Reason}
 use Rattle.explain.specs.declared.reason.Explanation.{Explanation}
-use Rattle.explain.specs.declared.reason.Explanation.TheVariants as Explanation
 use Rattle.explain.specs.History.{Answered, history_from}
 use Rattle.explain.specs.Reasons.{covers_at, takes_here, gives_up_here, last_mark, last_point, last_denial, last_giving_up, reason_of, cell_at}
 use Rattle.explain.specs.Explained.{explained, ring_explained, cells_explained}

@@ -1,7 +1,7 @@
 -- `plan::judge_children` meets its contract. The loop's invariant: judging the children from here on makes what judging all makes, and what is
 -- counted is small. The measure is the number of children left. Assumes nothing.
 use mathlib.Core.Path.{ap, ◌∙◌}
-use Prim.Native.Nat.{ℕ, ◌-◌, min}
+use Prim.Native.Nat.{ℕ, min}
 use native.Mathlib.Omega.{arith}
 use lib.ListN.{length}
 use Rattle.plan.proofs.JudgeLaws.{judge_start, judge_on, judge_end, judged_few}

@@ -1,4 +1,3 @@
-use Prim.Native.Nat.{◌-◌}
 use Rattle.small.proofs.TailLaws.{ReadFrom}
 use Rattle.small.proofs.read_tail.Given as goal
 

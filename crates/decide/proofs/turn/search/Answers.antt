@@ -1,7 +1,7 @@
 -- `decide::turn::search` meets its contract. The loop's invariant: what is left to search from here finds what the whole
 -- search finds. The measure is the number of directions left. Assumes nothing.
 use mathlib.Core.Path.{sym, ◌∙◌}
-use Prim.Native.Nat.{◌+◌, ◌-◌}
+use Prim.Native.Nat.{◌+◌}
 use native.Mathlib.Omega.{arith}
 use Rattle.decide.proofs.TurnLaws.{round_below, search_none, first_found, first_not, search_found, search_on, search_end}
 use Rattle.decide.proofs.turn.search.Goals as goal

@@ -1,7 +1,7 @@
 -- `judging::judge_again` meets its contract. The loop's invariant: judging the children from here on makes what judging all makes,
 -- and what is counted is small. The measure: the children left. Assumes nothing.
 use mathlib.Core.Path.{◌≡◌, ap, ◌∙◌}
-use Prim.Native.Nat.{ℕ, ◌-◌, min}
+use Prim.Native.Nat.{ℕ, min}
 use native.Mathlib.Omega.{arith}
 use lib.ListN.{length}
 use Rattle.coordinate.specs.declared.Coordinate.{Coordinate}

@@ -1,9 +1,8 @@
 -- `look::look_at_children` meets its contract. The loop's invariant: looking at what is left makes what looking at all makes.
 -- The measure: the children left. Assumes nothing.
 use mathlib.Core.Path.{◌≡◌, refl, sym, ◌∙◌}
-use Prim.Native.Nat.{◌-◌}
 use native.Mathlib.Omega.{arith}
-use lib.ListN.{length, length-map}
+use lib.ListN.{length}
 use Rattle.explain.specs.Reasons.{covers_at}
 use Rattle.explain.proofs.LookLaws.{look_on, look_end, by_start}
 use Rattle.explain.proofs.look.look_at_children.Lts

@@ -1,8 +1,6 @@
 -- `repeating::repeat_steps` meets its contract. The loop's invariant: what is left to do and to note, with what was counted and
 -- noted, is all of it. The measure: the steps left in the budget, and one while it goes on. Assumes nothing.
 use mathlib.Core.Path.{refl, sym, ◌∙◌}
-use mathlib.Core.Bool.{true}
-use Prim.Native.Nat.{◌-◌}
 use Rattle.implicit.specs.Step.{tape_step_of}
 use Rattle.implicit.specs.Run.{run_from}
 use Rattle.implicit.proofs.RunLoop.{run_start, start_bounded, run_end}

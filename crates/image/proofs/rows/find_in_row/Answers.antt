@@ -1,6 +1,5 @@
 -- `find_in_row` meets its contract. Assumes nothing.
 use mathlib.Core.Path.{refl, sym, ◌∙◌}
-use Prim.Native.Nat.{◌-◌}
 use native.Mathlib.Omega.{arith}
 use Rattle.image.specs.Cell.{of_kind}
 use Rattle.image.proofs.CountLaws.{find_hit, find_pass, find_end}

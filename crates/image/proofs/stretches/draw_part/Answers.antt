@@ -1,6 +1,5 @@
 -- `draw_part` meets its contract. Assumes nothing.
 use mathlib.Core.Path.{refl, ◌∙◌}
-use Prim.Native.Nat.{◌-◌}
 use native.Mathlib.Omega.{arith}
 use lib.ListN.{length-set}
 use Rattle.image.proofs.DrawLaws.{draw_start, draw_pass, draw_end}

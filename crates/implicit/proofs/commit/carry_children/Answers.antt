@@ -1,7 +1,6 @@
 -- `commit::carry_children` meets its contract. The loop's invariant: carrying out what is left makes what carrying out all makes. The measure is the
 -- number of children left. Assumes nothing.
 use mathlib.Core.Path.{◌≡◌, refl, sym, ap, ◌∙◌}
-use Prim.Native.Nat.{◌-◌}
 use native.Mathlib.Omega.{arith}
 use Rattle.decide.specs.Turn.{turned_found}
 use Rattle.implicit.specs.declared.commit.Behind.{Behind}

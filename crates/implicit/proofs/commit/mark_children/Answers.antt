@@ -1,7 +1,6 @@
 -- `commit::mark_children` meets its contract. The loop's invariant: marking what is left makes what marking all makes. The measure is the number of
 -- children left. Assumes nothing.
 use mathlib.Core.Path.{refl, sym, ◌∙◌}
-use Prim.Native.Nat.{◌-◌}
 use native.Mathlib.Omega.{arith}
 use Rattle.implicit.proofs.StepLawsChildren.{marked_on, marked_end}
 use Rattle.implicit.proofs.commit.mark_children.Goals as goal

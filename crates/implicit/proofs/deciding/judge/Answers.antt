@@ -2,7 +2,6 @@
 use mathlib.Core.Path.{ap, ◌∙◌}
 use Rattle.implicit.specs.StepComputed.{decision_as, decision_judged}
 use Rattle.implicit.proofs.StepLawsCode.{judged_refused, judged_gone}
-use mathlib.Core.Bool.{not}
 use Rattle.implicit.proofs.deciding.judge.Goals as goal
 
 pub returns-then-not-j : goal.returns-then-not-j

@@ -1,6 +1,5 @@
 -- `first::measure_first` meets its contract: what is used and what is left to count are the whole. The measure is the number of blocks left. Assumes nothing.
 use mathlib.Core.Path.{ap, ◌∙◌}
-use Prim.Native.Nat.{◌-◌}
 use native.Mathlib.Omega.{arith}
 use lib.Ieee.{binary64, fits}
 use denote.Floats.{passes}

@@ -1,5 +1,5 @@
 -- `first::queue_first` meets its contract: what is left to write from here is what was to write. The measure is the number of blocks left. Assumes nothing.
-use Prim.Native.Nat.{◌-◌, ◌≤◌}
+use Prim.Native.Nat.{◌≤◌}
 use native.Mathlib.Omega.{arith}
 use lib.Ieee.{binary64, fits}
 use lib.ListN.{length}

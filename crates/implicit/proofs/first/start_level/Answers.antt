@@ -1,6 +1,5 @@
 -- `first::start_level` meets its contract: what the tries left find is what all of them find. The measure is the number of tries left. Assumes nothing.
 use mathlib.Core.Path.{◌≡◌, refl, ◌∙◌}
-use Prim.Native.Nat.{◌-◌}
 use native.Mathlib.Omega.{arith}
 use Rattle.implicit.specs.Setup.{least_from, start_level}
 use Rattle.implicit.proofs.SetupLawsLevel.{level_on, level_found, level_end, level_is}

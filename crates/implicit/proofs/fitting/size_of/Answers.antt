@@ -1,7 +1,7 @@
 -- `fitting::size_of` meets its contract. The loop's invariant: measuring what is left makes what measuring all makes, and what is counted is
 -- small. The measure is the number of children left. Assumes nothing.
 use mathlib.Core.Path.{refl, sym, ap, ◌∙◌}
-use Prim.Native.Nat.{ℕ, ◌-◌}
+use Prim.Native.Nat.{ℕ}
 use native.Mathlib.Omega.{arith}
 use Rattle.decide.specs.Turn.{turned_found}
 use Rattle.plan.specs.AtOnce.{children_by}

@@ -1,8 +1,6 @@
 -- `running::take_steps` meets its contract. The loop's invariant: what is left to do, with what was counted, is the run.
 -- The measure: the steps left in the budget, and one while the run goes on. Assumes nothing.
 use mathlib.Core.Path.{refl, ◌∙◌}
-use mathlib.Core.Bool.{true}
-use Prim.Native.Nat.{◌-◌}
 use Rattle.implicit.specs.Step.{tape_step_of}
 use Rattle.implicit.specs.Run.{run_from}
 use Rattle.implicit.proofs.RunLoop.{LoopKept, loop_kept, run_start, start_bounded, run_end}

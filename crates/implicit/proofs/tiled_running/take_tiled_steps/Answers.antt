@@ -1,7 +1,5 @@
 -- `tiled_running::take_tiled_steps` meets its contract. Assumes nothing.
 use mathlib.Core.Path.{refl, ◌∙◌}
-use mathlib.Core.Bool.{true}
-use Prim.Native.Nat.{◌-◌}
 use lib.ListN.{length}
 use Rattle.implicit.specs.Step.{world_of}
 use Rattle.implicit.specs.Tiled.{tiled_tape_step_of, tiled_run_from}

@@ -1,6 +1,6 @@
 -- `write::digit_count` meets its contract. Assumes nothing.
 use mathlib.Core.Path.{refl, ◌∙◌}
-use Prim.Native.Nat.{◌-◌, ◌^◌, ◌≤◌, ◌<◌}
+use Prim.Native.Nat.{◌^◌, ◌≤◌, ◌<◌}
 use native.Mathlib.Omega.{arith}
 use Rattle.sheet.proofs.WritingLaws.{places_found, places_on, places_end}
 use Rattle.sheet.proofs.write.digit_count.Goals as goal

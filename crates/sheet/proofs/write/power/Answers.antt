@@ -1,6 +1,6 @@
 -- `write::power` meets its contract. Assumes nothing.
 use mathlib.Core.Path.{◌≡◌, refl}
-use Prim.Native.Nat.{◌-◌, ◌^◌, ◌≤◌}
+use Prim.Native.Nat.{◌^◌, ◌≤◌}
 use native.Mathlib.Omega.{arith}
 use Rattle.sheet.proofs.WritingLaws.{power_next, power_pass}
 use native.Mathlib.Nat.{one-le-pow}

@@ -1,7 +1,6 @@
 -- `write::put_number` meets its contract. Assumes nothing.
 use mathlib.Core.Path.{refl, ◌∙◌}
 use native.Mathlib.Omega.{arith}
-use Prim.Native.Nat.{◌-◌}
 use lib.ListN.{length-set}
 use Rattle.sheet.proofs.WritingLaws.{write_digit, write_digits_end, digits_start}
 use Rattle.sheet.proofs.write.put_number.Goals as goal

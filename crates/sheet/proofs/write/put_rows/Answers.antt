@@ -2,7 +2,6 @@
 use native.Mathlib.Omega.{arith}
 use borrow.Author.Rules.{rules}
 use Rattle.sheet.proofs.WritingLaws.{puts_length}
-use Prim.Native.Nat.{◌-◌}
 use Rattle.sheet.proofs.RowLaws.{rows_start, row_end, row_room, rows_again, rows_end}
 use Rattle.sheet.proofs.write.put_rows.Goals as goal
 
