@@ -1,13 +1,16 @@
 // Replays block sequences against expected bytes: the records of the file `cases`, each a length byte and so many bytes, in order.
 // make.py beside this folder's data/ says what a record holds; it computes what is expected by itself, from document 01.
 #![tactic(auto)]
-ghost use Rattle.std.specs.Prelude.{◌≡◌, ◌+◌, ◌^◌, ◌≤◌, ◌<◌, min, length, take, drop};
+
+ghost use Rattle.std.specs.Prelude.{◌≡◌, ◌+◌, ◌^◌, ◌≤◌, ◌<◌, min, length, take, drop, IfOk};
 ghost use Rattle.replay_blocks.specs.Record.{same_measure};
 ghost use Rattle.replay_blocks.specs.Replay.{same_appended, same_taken, measure_agrees, append_agrees, take_agrees, ring_agrees, agrees};
 ghost use Rattle.replay_blocks.specs.Replay.{sets_up, records, counted_by, tallied_by};
 
 use queue::{Appended, Block, Last, Measured, Taken, remember, starting_last};
 use record::{block_at, last_at, number_at, place, same_block, same_last};
+use std::io::Read;
+use std::{fs, io};
 
 mod record;
 
@@ -289,40 +292,32 @@ fn step(rec: &[u8], ring: &mut [u8], s: Replayed) -> Replayed
     let p = play(rec, ring, q);
     let queue = p.queue;
     let tally = counted(t, up, p.ok);
-    show(t, tally);
     Replayed { queue, tally }
 }
 
-fn say(word: &[u8], n: u64) {
-    io::write_all(1, word);
-    io::print_decimal(1, n);
-    io::write_all(1, b"\n");
-}
-
 // A record that differs, of the first twenty: its place in the list.
-fn show(before: Score, after: Score)
+fn show(rt: &impl Print, before: Score, after: Score) -> io::Result<()>
     requires { records after ≤ 2 ^ 32 }
 {
     if before.differ < after.differ {
         if after.differ <= 20 {
-            say(
-                b"differs: record ",
-                after.agree + after.differ + after.setup,
-            );
+            let number = after.agree + after.differ + after.setup;
+            println!(rt; "differs: record {number}")?;
         }
     }
+    Ok(())
 }
 
 // The next record into a buffer of zeros. Answers its length, 0 at the end.
-fn next(fd: i32, rec: &mut [u8]) -> usize
+fn next(from: &mut impl Read, rec: &mut [u8]) -> io::Result<usize>
     requires { length rec.old ≡ 256 }
-    ensures { result ≤ 255 }
+    ensures { IfOk result (λ n. n ≤ 255) }
 {
     let mut head = [0u8; 1];
-    io::read_full(fd, &mut head);
+    stream::read_full(from, &mut head)?;
     let n = place(head[0]);
-    io::read_full(fd, &mut rec[0..n]);
-    n
+    stream::read_full(from, &mut rec[0..n])?;
+    Ok(n)
 }
 
 fn begin() -> Replayed
@@ -345,31 +340,28 @@ fn begin() -> Replayed
     Replayed { queue, tally }
 }
 
-fn replay(fd: i32, ring: &mut [u8]) -> Score
+fn replay(rt: &impl Print, from: &mut impl Read, ring: &mut [u8]) -> io::Result<Score>
     requires { length ring.old ≡ 192 }
-    ensures { records result ≤ 1000000 }
+    ensures { IfOk result (λ t. records t ≤ 1000000) }
 {
     let mut s = begin();
-    let mut passes: u64 = 1000000;
-    while 0 < passes {
+    for _pass in 0..1000000u64 {
         let mut rec = [0u8; 256];
-        if next(fd, &mut rec) == 0 {
-            let t = s.tally;
-            return t;
+        if next(from, &mut rec)? == 0 {
+            return Ok(s.tally);
         }
+        let before = s.tally;
         s = step(&rec, ring, s);
-        passes -= 1;
+        show(rt, before, s.tally)?;
     }
-    let t = s.tally;
-    t
+    Ok(s.tally)
 }
 
-fn main() {
+fn main(rt: HostRuntime) -> io::Result<()> {
     let mut ring = [0u8; 192];
-    let fd = os::open_read(b"cases");
-    let t = replay(fd, &mut ring);
-    libc::close(fd);
-    say(b"records that agree: ", t.agree);
-    say(b"records that differ: ", t.differ);
-    say(b"records that set up: ", t.setup);
+    let mut cases = fs::open(&rt, "cases")?;
+    let t = replay(&rt, &mut cases, &mut ring)?;
+    println!(rt; "records that agree: {}", t.agree)?;
+    println!(rt; "records that differ: {}", t.differ)?;
+    println!(rt; "records that set up: {}", t.setup)
 }

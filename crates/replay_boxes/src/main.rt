@@ -1,6 +1,7 @@
 // Asks `boxes` the questions of data/boxes and prints its answers, a line each; the file stdout has what they must be.
 // make.py, beside src/, says how both were made and what a question looks like.
 #![tactic(auto)]
+
 ghost use Rattle.std.specs.Prelude.{◌≡◌, ◌+◌, ◌*◌, ◌%◌, ◌<◌, ◌≤◌};
 ghost use Rattle.replay_boxes.specs.Question.{four_bytes_at, question_word, bounds_at, coordinate_at, padding_in, edges_in, plot_in};
 
@@ -8,6 +9,7 @@ use boxes::{BoxAnswer, Edges, MapKind, Padding, Plot};
 use coordinate::Coordinate;
 use interval::{Interval, float_of};
 use refusal::Refusal;
+use std::{fs, io};
 
 fn wide(b: u8) -> u64
     ensures { (result ≡ b) × (result < 256) }
@@ -104,69 +106,64 @@ fn plot_of(q: &[u8; 152]) -> Plot
 }
 
 // A number, after a space.
-fn say(n: u64) {
-    io::write_all(1, b" ");
-    io::print_hex(1, n, 1);
+fn say(rt: &impl Print, n: u64) -> io::Result<()> {
+    print!(rt; " {n:x}")
 }
 
 // A refusal's number, after a space and an r.
-fn say_refusal(r: Refusal) {
-    io::write_all(1, b" r");
-    io::print_hex(1, refusal::number_of(r) as u64, 1);
+fn say_refusal(rt: &impl Print, r: Refusal) -> io::Result<()> {
+    let n = refusal::number_of(r);
+    print!(rt; " r{n:x}")
 }
 
-fn say_interval(x: Interval) {
-    say(interval::bits_of(x.lower));
-    say(interval::bits_of(x.upper));
+fn say_interval(rt: &impl Print, x: Interval) -> io::Result<()> {
+    say(rt, interval::bits_of(x.lower))?;
+    say(rt, interval::bits_of(x.upper))
 }
 
-fn say_edges(e: Edges) {
-    say_interval(e.left);
-    say_interval(e.right);
-    say_interval(e.bottom);
-    say_interval(e.top);
+fn say_edges(rt: &impl Print, e: Edges) -> io::Result<()> {
+    say_interval(rt, e.left)?;
+    say_interval(rt, e.right)?;
+    say_interval(rt, e.bottom)?;
+    say_interval(rt, e.top)
 }
 
-fn say_answer(answer: BoxAnswer) {
+fn say_answer(rt: &impl Print, answer: BoxAnswer) -> io::Result<()> {
     match answer {
         BoxAnswer::Box { edges, x, y } => {
-            say_edges(edges);
-            say_interval(x);
-            say_interval(y);
+            say_edges(rt, edges)?;
+            say_interval(rt, x)?;
+            say_interval(rt, y)
         }
-        BoxAnswer::Refused(r) => say_refusal(r),
+        BoxAnswer::Refused(r) => say_refusal(rt, r),
     }
 }
 
-fn ask_kind(q: &[u8; 152], kind: MapKind) {
+fn ask_kind(rt: &impl Print, q: &[u8; 152], kind: MapKind) -> io::Result<()> {
     let plot = plot_of(q);
     let x = coordinate_at(q, 15);
     let y = coordinate_at(q, 17);
-    say_answer(boxes::block_box(plot, kind, x, y));
+    say_answer(rt, boxes::block_box(plot, kind, x, y))
 }
 
 // Prints one answer.
-fn ask(q: &[u8; 152]) {
+fn ask(rt: &impl Print, q: &[u8; 152]) -> io::Result<()> {
     if word(q, 0) == 0 {
-        ask_kind(q, MapKind::Quick);
+        ask_kind(rt, q, MapKind::Quick)?;
     } else {
-        ask_kind(q, MapKind::Precise);
+        ask_kind(rt, q, MapKind::Precise)?;
     }
-    io::write_all(1, b"\n");
+    println!(rt)
 }
 
-fn main() {
-    let fd = os::open_read(b"boxes");
-    let mut asked: u64 = 0;
-    while asked < 1000000 {
+fn main(rt: HostRuntime) -> io::Result<()> {
+    let mut boxes = fs::open(&rt, "boxes")?;
+    for asked in 0..1000000u64 {
         let mut q = [0u8; 152];
-        let got = io::read_full(fd, &mut q);
-        if got < 152 {
-            say(asked);
-            io::write_all(1, b" questions\n");
-            return;
+        if stream::read_full(&mut boxes, &mut q)? < 152 {
+            return println!(rt; " {asked:x} questions");
         }
-        ask(&q);
-        asked += 1;
+        ask(&rt, &q)?;
     }
+    Ok(())
 }

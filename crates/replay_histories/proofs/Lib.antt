@@ -1,3 +1,2 @@
--- Laws about the tables and the counting.
-pub mod CountingLaws
+-- Laws about the tables.
 pub mod TableLaws

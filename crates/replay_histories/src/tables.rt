@@ -3,6 +3,8 @@ ghost use Rattle.std.specs.Prelude.{◌≡◌, ◌<◌, true, length};
 ghost use Rattle.replay_histories.specs.Counting.{Same};
 ghost use Rattle.replay_histories.specs.Words.{WordTable, NumberTable};
 
+use std::io;
+
 // How many words and bytes there are: specs/Words says the same.
 pub(crate) const WORDS: usize = 2048;
 
@@ -103,36 +105,30 @@ pub(crate) fn are_same(words: &[u64], bytes: &[u8], got: &[u64], left: &[u8]) ->
     are_same_words(words, got) & check::same(bytes, left)
 }
 
-fn say(text: &[u8], at: usize, got: u64, want: u64) {
-    io::write_all(1, text);
-    io::print_decimal(1, at as u64);
-    io::write_all(1, b" is ");
-    io::print_decimal(1, got);
-    io::write_all(1, b", not ");
-    io::print_decimal(1, want);
-    io::write_all(1, b"\n");
+fn say(rt: &impl Print, text: &str, at: usize, got: u64, want: u64) -> io::Result<()> {
+    println!(rt; "{text}{at} is {got}, not {want}")
 }
 
 // The first word that differs.
-pub(crate) fn say_word(words: &[u64], got: &[u64])
+pub(crate) fn say_word(rt: &impl Print, words: &[u64], got: &[u64]) -> io::Result<()>
     requires { length words.now ≡ length got.now }
 {
     for i in 0..words.len() {
         if words[i] != got[i] {
-            say(b": word ", i, got[i], words[i]);
-            return;
+            return say(rt, ": word ", i, got[i], words[i]);
         }
     }
+    Ok(())
 }
 
 // The first byte that differs.
-pub(crate) fn say_byte(bytes: &[u8], left: &[u8])
+pub(crate) fn say_byte(rt: &impl Print, bytes: &[u8], left: &[u8]) -> io::Result<()>
     requires { length bytes.now ≡ length left.now }
 {
     for i in 0..bytes.len() {
         if bytes[i] != left[i] {
-            say(b": byte ", i, wide(left[i]), wide(bytes[i]));
-            return;
+            return say(rt, ": byte ", i, wide(left[i]), wide(bytes[i]));
         }
     }
+    Ok(())
 }

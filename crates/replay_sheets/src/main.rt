@@ -3,7 +3,12 @@
 // data/sheets has how many there are in two bytes, the higher first, then for each its length in two and its bytes. make.py, beside this
 // crate's folders, works out by itself what they print, from documents 01 and 02.
 #![tactic(auto)]
-ghost use Rattle.std.specs.Prelude.{◌≡◌, ◌+◌, ◌*◌, ◌≤◌, ◌<◌, length};
+
+ghost use Rattle.std.specs.Prelude.{◌≡◌, ◌+◌, ◌*◌, ◌≤◌, ◌<◌, length, IfOk};
+
+use std::io::Read;
+use std::rt::Files;
+use std::{fs, io};
 
 fn place(b: u8) -> usize
     ensures { (result ≡ b) × (result < 256) }
@@ -19,77 +24,68 @@ fn number(high: u8, low: u8) -> usize
 }
 
 // The number in the next two bytes of a file; 0 for those that are not there.
-fn read_number(fd: i32) -> usize
-    ensures { result < 65536 }
+fn read_number(from: &mut impl Read) -> io::Result<usize>
+    ensures { IfOk result (λ n. n < 65536) }
 {
     let mut two = [0u8; 2];
-    io::read_full(fd, &mut two);
-    number(two[0], two[1])
+    stream::read_full(from, &mut two)?;
+    Ok(number(two[0], two[1]))
 }
 
 // The next bytes of a file, as many as are asked for; those that are not there stay 0.
-fn read_part(fd: i32, out: &mut [u8], n: usize)
+fn read_part(from: &mut impl Read, out: &mut [u8], n: usize) -> io::Result<()>
     requires { n ≤ length out.old }
 {
-    io::read_full(fd, &mut out[0..n]);
+    stream::read_full(from, &mut out[0..n])?;
+    Ok(())
 }
 
 // The file `sheet` holds these bytes and no others.
-fn put_sheet(bytes: &[u8]) {
-    let fd = os::open_overwrite(b"sheet");
-    io::write_all(fd, bytes);
-    libc::close(fd);
+fn put_sheet(rt: &impl Files, bytes: &[u8]) -> io::Result<()> {
+    fs::write(rt, "sheet", bytes)
 }
 
 // From the file `sheet` to the file `text`.
-fn chart_files() {
+fn chart_files(rt: &impl Files) -> io::Result<()> {
     let mut sheet = [0u8; 16385];
     let mut text = [0u8; 8704];
-    let input = os::open_read(b"sheet");
-    let output = os::open_overwrite(b"text");
-    program::chart(input, output, &mut sheet, &mut text);
-    libc::close(input);
-    libc::close(output);
-}
-
-fn say(word: &[u8], n: u64) {
-    io::write_all(1, word);
-    io::print_decimal(1, n);
+    let mut input = fs::open(rt, "sheet")?;
+    let mut output = fs::create(rt, "text")?;
+    program::chart(&mut input, &mut output, &mut sheet, &mut text)?;
+    Ok(())
 }
 
 // Prints a sheet's number, how many bytes the file `text` holds, and these; there is room for more than a text may have.
-fn show_text(number: u64) {
+fn show_text(rt: &(impl Files + Print), number: u64) -> io::Result<()> {
     let mut text = [0u8; 16384];
-    let fd = os::open_read(b"text");
-    let n = io::read_full(fd, &mut text);
-    libc::close(fd);
-    say(b"sheet ", number);
-    say(b", bytes ", n as u64);
-    io::write_all(1, b"\n");
-    io::write_all(1, &text[0..n]);
+    let mut file = fs::open(rt, "text")?;
+    let n = stream::read_full(&mut file, &mut text)?;
+    println!(rt; "sheet {number}, bytes {n}")?;
+    rt.write_all(&text[0..n])
 }
 
 // The next sheet of a file, which has a number.
-fn play(fd: i32, number: u64) {
+fn play(rt: &(impl Files + Print), from: &mut impl Read, number: u64) -> io::Result<()> {
     let mut sheet = [0u8; 65536];
-    let n = read_number(fd);
-    read_part(fd, &mut sheet, n);
-    put_sheet(&sheet[0..n]);
-    chart_files();
-    show_text(number);
+    let n = read_number(from)?;
+    read_part(from, &mut sheet, n)?;
+    put_sheet(rt, &sheet[0..n])?;
+    chart_files(rt)?;
+    show_text(rt, number)
 }
 
 // So many of them.
-fn play_all(fd: i32, count: usize)
+fn play_all(rt: &(impl Files + Print), from: &mut impl Read, count: usize) -> io::Result<()>
     requires { count < 65536 }
 {
     for i in 0..count {
-        play(fd, i as u64 + 1);
+        play(rt, from, i as u64 + 1)?;
     }
+    Ok(())
 }
 
-fn main() {
-    let fd = os::open_read(b"sheets");
-    play_all(fd, read_number(fd));
-    libc::close(fd);
+fn main(rt: HostRuntime) -> io::Result<()> {
+    let mut sheets = fs::open(&rt, "sheets")?;
+    let count = read_number(&mut sheets)?;
+    play_all(&rt, &mut sheets, count)
 }

@@ -1,13 +1,17 @@
 // The program that is asked why: a pixel's column and row, four bytes each, and then a sheet on standard input; the reason, a line, on standard output.
 // Document 02, (v); the work is done in `program`.
 #![tactic(auto)]
-fn main() {
+
+use std::io;
+
+fn main(rt: HostRuntime) -> io::Result<()> {
     let mut question = [0u8; 16393];
     let mut text = [0u8; 160];
     program::why(
-        libc::STDIN_FILENO,
-        libc::STDOUT_FILENO,
+        &mut rt.reader(),
+        &mut io::writer(&rt),
         &mut question,
         &mut text,
-    );
+    )?;
+    Ok(())
 }

@@ -1,0 +1,2 @@
+-- Lemmas on what reads take of a stream.
+pub mod Taken
