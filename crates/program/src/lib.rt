@@ -55,7 +55,8 @@ pub fn chart<R: Read, W: Write>(
     ensures bytes_read { IfOk result (λ done. Consumes (R.remaining input.old) (R.remaining input.new) (take done.read sheet.new)) }
     ensures all_read { IfOk result (λ done. done.read < length sheet.new → IsAtEnd (R.remaining input.new)) }
     ensures bytes_written { IfOk result (λ done. Appends (W.contents output.old) (W.contents output.new) (text_of (take done.read sheet.new))) }
-    ensures err { OnErr result (Unsaid text_of sheet.new text.old text.new (W.contents output.old) (W.contents output.new)) }
+    ensures err { OnErr result (Unsaid text_of sheet.new (R.remaining input.old) (R.remaining input.new)
+        text.old text.new (W.contents output.old) (W.contents output.new)) }
 {
     let read = stream::read_full(input, sheet)?;
     let written = chart_first(sheet, read, text);
@@ -87,7 +88,8 @@ pub fn why<R: Read, W: Write>(
     ensures bytes_read { IfOk result (λ done. Consumes (R.remaining input.old) (R.remaining input.new) (take done.read question.new)) }
     ensures all_read { IfOk result (λ done. done.read < length question.new → IsAtEnd (R.remaining input.new)) }
     ensures bytes_written { IfOk result (λ done. Appends (W.contents output.old) (W.contents output.new) (why_of (take done.read question.new))) }
-    ensures err { OnErr result (Unsaid why_of question.new text.old text.new (W.contents output.old) (W.contents output.new)) }
+    ensures err { OnErr result (Unsaid why_of question.new (R.remaining input.old) (R.remaining input.new)
+        text.old text.new (W.contents output.old) (W.contents output.new)) }
 {
     let read = stream::read_full(input, question)?;
     let written = explain_first(question, read, text);
