@@ -14,7 +14,7 @@ use std::io;
 use std::io::{Read, Write};
 
 // How many bytes of the sheet, or of the question, were read, and how many of its text were written.
-#[derive(Drop)]
+#[derive(Clone, Copy)]
 pub struct Charted {
     pub read: usize,
     pub written: usize,
