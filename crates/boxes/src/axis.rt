@@ -133,8 +133,8 @@ fn high_end(c: Coordinate, high: Interval) -> f64
 
 // A block along an axis.
 pub(crate) fn box_along(kind: MapKind, a: PlotAxis, c: Coordinate) -> AxisBox
-    requires side_bound { (a.side ≤ 32768) × (a.before + a.after < a.side) }
-    requires le_rank { (16 ≤ c.rank) × (c.rank < 64) × (c.index < 2 ^ 47) × (ends_at c ≤ 2 ^ 47) }
+    requires room { (a.side ≤ 32768) × (a.before + a.after < a.side) }
+    requires legal { (16 ≤ c.rank) × (c.rank < 64) × (c.index < 2 ^ 47) × (ends_at c ≤ 2 ^ 47) }
     ensures { result ≡ box_along kind a c }
 {
     let m = axis_map(kind, a);

@@ -37,8 +37,8 @@ pub(crate) fn repeat_steps(
     requires { leb (pixel_count s.chosen) (length cells.old) ≡ true }
     ensures repeated_to { RepeatedTo (run_from budget (world_of s ring.old cells.old) tape.now) result
         ring.new cells.new }
-    ensures notes_value { result.notes ≡ notes_after column row budget (world_of s ring.old cells.old) tape.now 0 no_notes }
-    ensures chosen_value { result.state.chosen ≡ s.chosen }
+    ensures notes { result.notes ≡ notes_after column row budget (world_of s ring.old cells.old) tape.now 0 no_notes }
+    ensures chosen { result.state.chosen ≡ s.chosen }
 {
     let none = Moment { step: 0, child: 0 };
     let notes = Notes {

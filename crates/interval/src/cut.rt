@@ -18,8 +18,8 @@ fn span(a: f64, b: f64) -> Interval
 
 // The first cut of a finite interval: its ends apart, unless they are one integer or next to each other.
 fn first_between(a: f64, b: f64, integer: bool) -> PiecesAnswer
-    requires integer_value { legal_interval (pair_of a b) integer ≡ true }
-    requires t { T (finite a && finite b) }
+    requires legal { legal_interval (pair_of a b) integer ≡ true }
+    requires finite { T (finite a && finite b) }
     ensures { result ≡ pieces_from (first_cut (pair_of a b) integer) }
 {
     let low = span(a, a);
@@ -35,8 +35,8 @@ fn first_between(a: f64, b: f64, integer: bool) -> PiecesAnswer
 
 // The first cut: an infinite end is no piece of its own.
 pub(crate) fn first(x: Interval, integer: bool) -> PiecesAnswer
-    requires integer_value { legal_interval x integer ≡ true }
-    requires x_value { put_interval x ≡ x }
+    requires legal { legal_interval x integer ≡ true }
+    requires stored { put_interval x ≡ x }
     ensures { result ≡ pieces_from (first_cut x integer) }
 {
     match kind_of(x) {

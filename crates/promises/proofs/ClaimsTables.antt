@@ -80,23 +80,27 @@ unfolding tiled_step_with tiled_after_taking touched_damaged touched_tiles some_
     painted done_to stored of_little_endian little_endian le count_trailing_zeros
 three_tabled = (refl, refl, refl)
 
--- the table that each of them leaves, by computing
-tables_left : (counted 1 ≡ table_after (after 0) (counted 0) (finished (after 1) 2 2))
-    × (counted 2 ≡ table_after (after 1) (counted 1) (finished (after 2) 4 4))
-    × (counted 3 ≡ table_after (after 2) (counted 2) (finished (after 3) 1 4))
+-- each on the record, ring, cells and table that the call before it left; and the table that it leaves, by computing
+one_tabled : TiledSteps 1 (after 0) (counted 0) (after 1) (counted 1)
 unfolding table_after recounted_where touches meets tile_at tile_number tallied count_of held_cells holds_cell rectangle_of pixel reading meaning_of is_true is_false
     is_uncertain is_given_up taken content older_stretch newer_stretch decode place_read with_x coordinate_read coordinate_of read_small read_behind level_read
     add_parameters add_parameter parameter_read add_direction directions used_of direction_at starting_last of_little_endian little_endian count_trailing_zeros
-tables_left = (refl, refl, refl)
+one_tabled = then_tiled_step {n = 0} {w = after 0} {w' = after 0} {w'' = after 1} {t = counted 0} {t' = counted 0} {t'' = counted 1}
+    no_tiled_steps (64 ∷ 64 ∷ []) 2 2 three_tabled.0 refl
 
--- each on the record, ring, cells and table that the call before it left; and the table that it leaves
+two_steps_tabled : TiledSteps 2 (after 0) (counted 0) (after 2) (counted 2)
+unfolding table_after recounted_where touches meets tile_at tile_number tallied count_of held_cells holds_cell rectangle_of pixel reading meaning_of is_true is_false
+    is_uncertain is_given_up taken content older_stretch newer_stretch decode place_read with_x coordinate_read coordinate_of read_small read_behind level_read
+    add_parameters add_parameter parameter_read add_direction directions used_of direction_at starting_last of_little_endian little_endian count_trailing_zeros
+two_steps_tabled = then_tiled_step {n = 1} {w = after 0} {w' = after 1} {w'' = after 2} {t = counted 0} {t' = counted 1} {t'' = counted 2}
+    one_tabled (0 ∷ 0 ∷ 0 ∷ 0 ∷ []) 4 4 three_tabled.1 refl
+
 pub ran_tabled : TiledSteps 3 (after 0) (counted 0) (after 3) (counted 3)
-ran_tabled =
-    then_tiled_step {t'' = counted 3}
-    (then_tiled_step {t'' = counted 2}
-    (then_tiled_step {t'' = counted 1} no_tiled_steps (64 ∷ 64 ∷ []) 2 2 three_tabled.0 tables_left.0)
-    (0 ∷ 0 ∷ 0 ∷ 0 ∷ []) 4 4 three_tabled.1 tables_left.1)
-    (160 ∷ 0 ∷ 0 ∷ 0 ∷ []) 1 4 three_tabled.2 tables_left.2
+unfolding table_after recounted_where touches meets tile_at tile_number tallied count_of held_cells holds_cell rectangle_of pixel reading meaning_of is_true is_false
+    is_uncertain is_given_up taken content older_stretch newer_stretch decode place_read with_x coordinate_read coordinate_of read_small read_behind level_read
+    add_parameters add_parameter parameter_read add_direction directions used_of direction_at starting_last of_little_endian little_endian count_trailing_zeros
+ran_tabled = then_tiled_step {n = 2} {w = after 0} {w' = after 2} {w'' = after 3} {t = counted 0} {t' = counted 2} {t'' = counted 3}
+    two_steps_tabled (160 ∷ 0 ∷ 0 ∷ 0 ∷ []) 1 4 three_tabled.2 refl
 
 -- "the table equals a recount", by computing both;
 pub each_recounted : EqualsRecount two.chosen (after 0) (counted 0) × EqualsRecount two.chosen (after 2) (counted 2)

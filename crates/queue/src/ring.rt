@@ -6,8 +6,8 @@ ghost use Rattle.queue.specs.Ring.{part_of, behind, part_place, fits_ring, older
 
 // The bytes at an offset of the two stretches: a part of one of them, to its end. The contract says which bytes, and where they lie.
 pub fn part<'a>(older: &'a [u8], newer: &'a [u8], at: usize) -> &'a [u8]
-    ensures result_value { result.now ≡ part_of older.now newer.now at }
-    ensures ref_ptr_value { result.ref_ptr ≡ part_place older.entry.ref_ptr (length older.now) newer.entry.ref_ptr (length newer.now) at }
+    ensures bytes { result.now ≡ part_of older.now newer.now at }
+    ensures place { result.ref_ptr ≡ part_place older.entry.ref_ptr (length older.now) newer.entry.ref_ptr (length newer.now) at }
 {
     if at < older.len() {
         return &older[at..];
@@ -39,8 +39,8 @@ pub(crate) fn fits_ring(len: usize, head: usize, used: usize) -> bool
 // The stretch from the head on.
 pub(crate) fn older_stretch(ring: &[u8], head: usize, used: usize) -> &[u8]
     requires { (head ≤ length ring.now) × (used ≤ length ring.now) }
-    ensures result_value { result.now ≡ older_stretch ring.now head used }
-    ensures ref_ptr_value { result.ref_ptr ≡ behind ring.entry.ref_ptr head }
+    ensures bytes { result.now ≡ older_stretch ring.now head used }
+    ensures place { result.ref_ptr ≡ behind ring.entry.ref_ptr head }
 {
     let room = ring.len() - head;
     if used <= room {
@@ -52,8 +52,8 @@ pub(crate) fn older_stretch(ring: &[u8], head: usize, used: usize) -> &[u8]
 // The stretch that goes on at byte 0.
 pub(crate) fn newer_stretch(ring: &[u8], head: usize, used: usize) -> &[u8]
     requires { (head ≤ length ring.now) × (used ≤ length ring.now) }
-    ensures result_value { result.now ≡ newer_stretch ring.now head used }
-    ensures ref_ptr_value { result.ref_ptr ≡ ring.entry.ref_ptr }
+    ensures bytes { result.now ≡ newer_stretch ring.now head used }
+    ensures place { result.ref_ptr ≡ ring.entry.ref_ptr }
 {
     let room = ring.len() - head;
     if used <= room {

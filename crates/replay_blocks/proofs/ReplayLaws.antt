@@ -15,8 +15,9 @@ use Rattle.queue.specs.declared.Measured.{Measured}
 use Rattle.queue.specs.declared.Taken.{Taken}
 use Rattle.queue.specs.Queue.{taken, measured, appended}
 use Rattle.replay_blocks.specs.declared.Tested.{Tested}
+use Rattle.replay_blocks.specs.declared.Score.{Score}
 use Rattle.replay_blocks.specs.Record.{number_at, block_at, last_at, same_measure}
-use Rattle.replay_blocks.specs.Replay.{same_bytes, same_appended, same_taken, measure_agrees, append_agrees, take_agrees, ring_agrees, agrees}
+use Rattle.replay_blocks.specs.Replay.{same_bytes, same_appended, same_taken, measure_agrees, append_agrees, take_agrees, ring_agrees, agrees, counted_by}
 
 -- the first elements, as a part of a slice that begins at 0 has them; and those of a part that begins later
 pub part_front : (n : ℕ) (xs : List ℕ) → take (n - 0) (drop 0 xs) ≡ take n xs
@@ -158,3 +159,7 @@ module _ (rec ring : List ℕ) (q : Tested) where
       (λ (z : get_or rec 0 0 ≡ 1). omega (arith, e, z))
       (λ (z : get_or rec 0 0 ≡ 2). omega (arith, e, z))
       (λ (z : get_or rec 0 0 ≡ 3). omega (arith, e, z))
+
+-- the counts, by what was found out of a record
+pub count_as : (tally t : Score) (u v k l : Bool) → tally ≡ counted_by u k t → u ≡ v → k ≡ l → tally ≡ counted_by v l t
+count_as tally t u v k l e f g = e ∙ ap (λ (x : Bool). counted_by x k t) f ∙ ap (λ (x : Bool). counted_by v x t) g

@@ -1,2 +1,3 @@
--- Laws about the tables.
+-- Laws about the tables and the counting.
+pub mod CountingLaws
 pub mod TableLaws

@@ -63,7 +63,7 @@ box_along-requires c =
     let j = c.args.y in let both = axis_asks (x_axis p) _ i c.x_axis-across.ensures (and_left (legal_side p.width) (legal_side p.height) (sides_pass c.before.before.before.before.before.before.before.before.before.before.before.before.before))
     (and_left (has_room (x_axis p)) (has_room (y_axis p)) (room_pass c.before.before.before.before.before.before.before.before))
     (and_left (place_right p.width i) (place_right p.height j)
-    (and_left (place_right p.width i && place_right p.height j) (eqb i.rank j.rank) (places_pass c))) in record { side_bound = both.0; le_rank = both.1 }
+    (and_left (place_right p.width i && place_right p.height j) (eqb i.rank j.rank) (places_pass c))) in record { room = both.0; legal = both.1 }
 
 pub box_along-requires-2 : goal.box_along-requires-2
 box_along-requires-2 c =
@@ -72,7 +72,7 @@ box_along-requires-2 c =
     let j = c.args.y in let both = axis_asks (y_axis p) _ j c.y_axis-up.ensures (and_right (legal_side p.width) (legal_side p.height) (sides_pass c.before.before.before.before.before.before.before.before.before.before.before.before.before.before))
     (and_right (has_room (x_axis p)) (has_room (y_axis p)) (room_pass c.before.before.before.before.before.before.before.before.before))
     (and_right (place_right p.width i) (place_right p.height j)
-    (and_left (place_right p.width i && place_right p.height j) (eqb i.rank j.rank) (places_pass c.before))) in record { side_bound = both.0; le_rank = both.1 }
+    (and_left (place_right p.width i && place_right p.height j) (eqb i.rank j.rank) (places_pass c.before))) in record { room = both.0; legal = both.1 }
 
 pub returns : goal.returns
 returns c =

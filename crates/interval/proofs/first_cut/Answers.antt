@@ -13,7 +13,7 @@ legal : (c : goal.After-put) (y : Interval) → y ≡ put_interval c.args.x → 
 legal c y e h = ap (λ (z : Interval). legal_interval z c.args.integer) e ∙ put_legal c.args.x c.args.integer ∙ h
 
 pub first-requires : goal.first-requires
-first-requires c = record { integer_value = legal c c.put.result c.put.ensures (sym c.is_legal.ensures ∙ c.if-is_legal.true); x_value = ap put_interval c.put.ensures ∙ put_again c.args.x ∙ sym c.put.ensures }
+first-requires c = record { legal = legal c c.put.result c.put.ensures (sym c.is_legal.ensures ∙ c.if-is_legal.true); stored = ap put_interval c.put.ensures ∙ put_again c.args.x ∙ sym c.put.ensures }
 
 pub returns-then-is_legal : goal.returns-then-is_legal
 returns-then-is_legal c =

@@ -45,9 +45,9 @@ pub store_stretches-requires : goal.store_stretches-requires
 store_stretches-requires c =
     let a = c.args in
     copy_fits a.ring.now a.head a.used a.other.now (fit c.before.before.before.before.before.before) (fit_other c.before.before.before.before) _ _
-    c.older_stretch.ensures.result_value c.newer_stretch.ensures.result_value
+    c.older_stretch.ensures.bytes c.newer_stretch.ensures.bytes
 
 pub returns : goal.returns
 returns c =
     let a = c.args in let both = copy_done a.ring.now a.head a.used a.other.now (fit c.before.before.before.before.before.before.before.before.before) (fit_other c.before.before.before.before.before.before.before) _ _
-    c.older_stretch.ensures.result_value c.newer_stretch.ensures.result_value _ c.store_stretches.ensures in record { value = both.0; other_after = both.1 }
+    c.older_stretch.ensures.bytes c.newer_stretch.ensures.bytes _ c.store_stretches.ensures in record { value = both.0; other_after = both.1 }

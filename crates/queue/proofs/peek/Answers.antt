@@ -28,21 +28,21 @@ answered : (r : Lts.After-read_block Tie.the-claims Reads.Pre Reads.Post Tie.han
 answered r =
     let a = r.args in
     taken_read a.ring.now a.head a.used a.set a.front _ _ _ (fit r.before.before.before)
-    r.older_stretch.ensures.result_value r.newer_stretch.ensures.result_value r.read_block.ensures
+    r.older_stretch.ensures.bytes r.newer_stretch.ensures.bytes r.read_block.ensures
 
 -- a block takes no more bytes than are used
 inside : (b : goal.After-by_fields-b) → b.in-Read.count ≤ b.args.used
 inside b =
     let a = b.args in
     taken_inside a.ring.now a.head a.used a.set a.front _ _ b.in-Read.block b.in-Read.count (fit b.before.before.before.before.before.before)
-    b.older_stretch.ensures.result_value b.newer_stretch.ensures.result_value (sym b.in-Read.is ∙ b.read_block.ensures)
+    b.older_stretch.ensures.bytes b.newer_stretch.ensures.bytes (sym b.in-Read.is ∙ b.read_block.ensures)
 
 -- a block takes no more bytes than are used
 inside-2 : (b : goal.After-move_on-next) → b.in-Read.count ≤ b.args.used
 inside-2 b =
     let a = b.args in
     taken_inside a.ring.now a.head a.used a.set a.front _ _ b.in-Read.block b.in-Read.count (fit b.before.before.before.before.before.before.before)
-    b.older_stretch.ensures.result_value b.newer_stretch.ensures.result_value (sym b.in-Read.is ∙ b.read_block.ensures)
+    b.older_stretch.ensures.bytes b.newer_stretch.ensures.bytes (sym b.in-Read.is ∙ b.read_block.ensures)
 
 pub returns-then-not-fits_ring : goal.returns-then-not-fits_ring
 returns-then-not-fits_ring c =

@@ -9,7 +9,7 @@ use Rattle.boxes.proofs.axis.box_along.Goals as goal
 
 pub point-requires-2 : goal.point-requires-2
 point-requires-2 c =
-    clip_room c.args.a.side c.args.c c.clipped_end.result c.clipped_end.ensures c.requires.le_rank.3
+    clip_room c.args.a.side c.args.c c.clipped_end.result c.clipped_end.ensures c.requires.legal.3
 
 pub returns : goal.returns
 unfolding box_along low_edge high_edge

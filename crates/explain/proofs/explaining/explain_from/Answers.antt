@@ -27,5 +27,5 @@ returns c =
     let s = c.repeat_steps-p in
     let r = c.reason_of in
     answer_from a.steps a.column a.row a.s a.ring.now a.cells.now a.tape.now c.requires.0 c.requires.1
-    s.result s.new.ring s.new.cells s.ensures.repeated_to s.ensures.notes_value s.ensures.chosen_value
+    s.result s.new.ring s.new.cells s.ensures.repeated_to s.ensures.notes s.ensures.chosen
     r.result r.ensures c.answer.result c.answer.ensures

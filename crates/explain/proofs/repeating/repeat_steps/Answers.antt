@@ -55,7 +55,7 @@ returns c =
       repeated_to = run_end tape_step_of run_from a.budget
           record { state = p.state; steps = p.steps; evaluations = p.evaluations; tape = p.tape; ending = p.ending; going = p.going }
           l.ring l.cells a.tape.now _ c.loop-p-test.false (l.invariant.4 ∙ began);
-      notes_value = sym (notes_end a.column a.row a.budget a.tape.now p l.ring l.cells c.loop-p-test.false) ∙ l.invariant.5
+      notes = sym (notes_end a.column a.row a.budget a.tape.now p l.ring l.cells c.loop-p-test.false) ∙ l.invariant.5
           ∙ notes_start a.column a.row a.budget a.tape.now _ a.ring.now a.cells.now refl refl refl;
-      chosen_value = l.invariant.6;
+      chosen = l.invariant.6;
     }

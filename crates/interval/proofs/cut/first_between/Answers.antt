@@ -14,13 +14,13 @@ held c = (passes (fits binary64 c.args.a) c.well_formed.0.1, passes (fits binary
 
 pub returns-then-integer-a : goal.returns-then-integer-a
 returns-then-integer-a c =
-    made_one c.args.a c.args.b c.args.integer (held c.before.before.before) c.requires.integer_value c.requires.t c.span-low.result c.span-low.ensures c.if-integer-a.true
+    made_one c.args.a c.args.b c.args.integer (held c.before.before.before) c.requires.legal c.requires.finite c.span-low.result c.span-low.ensures c.if-integer-a.true
 
 pub returns-then-integer-b : goal.returns-then-integer-b
 returns-then-integer-b c =
-    made_two c.args.a c.args.b c.args.integer (held c.before.before.before.before) c.requires.integer_value c.requires.t c.span-low.result c.span-high.result c.span-low.ensures c.span-high.ensures c.if-integer-b.true
+    made_two c.args.a c.args.b c.args.integer (held c.before.before.before.before) c.requires.legal c.requires.finite c.span-low.result c.span-high.result c.span-low.ensures c.span-high.ensures c.if-integer-b.true
 
 pub returns : goal.returns
 returns c =
-    made_three c.args.a c.args.b c.args.integer (held c.before.before.before.before.before) c.requires.integer_value c.requires.t c.span-low.result c.span.result c.span-high.result
+    made_three c.args.a c.args.b c.args.integer (held c.before.before.before.before.before) c.requires.legal c.requires.finite c.span-low.result c.span.result c.span-high.result
     c.span-low.ensures c.span.ensures c.span-high.ensures c.if-integer-a.false c.if-integer-b.false

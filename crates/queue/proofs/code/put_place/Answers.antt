@@ -4,6 +4,13 @@ use Rattle.queue.proofs.QueueableLaws.{queueable, known_indices}
 use Rattle.queue.proofs.WriteLaws.{coordinate_few, place_put}
 use Rattle.queue.proofs.code.put_place.Goals as goal
 
+pub returns : goal.returns
+returns c =
+    let a = c.args in
+    let x = c.put_coordinate-end in
+    let y = c.put_coordinate in
+    place_put a.last a.b a.out.now x.new.out y.new.out x.result y.result x.ensures y.ensures
+
 pub put_coordinate-end-requires : goal.put_coordinate-end-requires
 put_coordinate-end-requires c =
     let a = c.args in
@@ -23,10 +30,3 @@ put_coordinate-requires c =
       q.y.bound,
       q.y.high,
     )
-
-pub returns : goal.returns
-returns c =
-    let a = c.args in
-    let x = c.put_coordinate-end in
-    let y = c.put_coordinate in
-    place_put a.last a.b a.out.now x.new.out y.new.out x.result y.result x.ensures y.ensures

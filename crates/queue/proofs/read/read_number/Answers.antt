@@ -10,7 +10,7 @@ pub returns-in-Number : goal.returns-in-Number
 returns-in-Number c =
     let a = c.args in
     number_near a.older.now a.newer.now a.at c.in-Number.x c.in-Number.count
-    (sym c.in-Number.is ∙ c.read_small-near.ensures ∙ ap read_small c.part.ensures.result_value)
+    (sym c.in-Number.is ∙ c.read_small-near.ensures ∙ ap read_small c.part.ensures.bytes)
 
 pub returns-in-Refused : goal.returns-in-Refused
 returns-in-Refused c =

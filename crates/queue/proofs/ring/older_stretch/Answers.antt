@@ -12,13 +12,13 @@ pub returns-then-used-room : goal.returns-then-used-room
 unfolding older_stretch
 returns-then-used-room c =
     let a = c.args in
-    let e : a.head + a.used - a.head ≡ a.used = omega arith in record { result_value = rw e; ref_ptr_value = behind_at a.ring.ref_ptr a.head }
+    let e : a.head + a.used - a.head ≡ a.used = omega arith in record { bytes = rw e; place = behind_at a.ring.ref_ptr a.head }
 
 pub returns : goal.returns
 unfolding older_stretch
 returns c =
     let a = c.args in record {
-      result_value = rest_all a.ring.now a.head
+      bytes = rest_all a.ring.now a.head
           ∙ sym (take_all a.used (drop a.head a.ring.now) (simp length-drop (omega arith)));
-      ref_ptr_value = behind_at a.ring.ref_ptr a.head;
+      place = behind_at a.ring.ref_ptr a.head;
     }
