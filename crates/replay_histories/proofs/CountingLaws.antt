@@ -1,7 +1,7 @@
 -- One call more is counted by the comparison's answer.
-use mathlib.Core.Path.{◌≡◌, refl, sym, ◌∙◌}
+use mathlib.Core.Path.{◌≡◌, sym, ◌∙◌}
 use mathlib.Core.Bool.{Bool, true, false, false≢true}
-use Prim.Native.Nat.{ℕ, ◌+◌}
+use Prim.Native.Nat.{◌+◌}
 use native.Mathlib.Omega.{arith}
 use Rattle.replay_histories.specs.declared.tally.CallScore.{CallScore}
 use Rattle.replay_histories.specs.Counting.{calls, with_agreed, with_different, closed, CountedBy}
