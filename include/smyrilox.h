@@ -1,7 +1,7 @@
 /* Smyrilox: verified picture refinement, for programs in C and whatever calls C.
  *
  * Link libsmyrilox, which `bindings/build` writes and `bindings/install PREFIX` installs, or target/staticlib/libcapi.a, which
- * `rt staticlib capi` proves and writes and which libsmyrilox holds (x86-64 Linux, System V calling convention).
+ * `bindings/archive` proves and writes and which libsmyrilox holds (x86-64 Linux, System V calling convention).
  * A picture is refined by a caller who owns three things: the record (smyrilox_state, by value), the ring (bytes that hold the queue of
  * blocks) and the cells (64-bit numbers, one a pixel, rows from the top). The engine keeps nothing between calls and allocates nothing.
  *
