@@ -68,8 +68,10 @@ def answer(name, given, body, told, declared):
         # Nor is the place of an answer handed back.
         return "void", body.replace("ret ptr %a0\n", "ret void\n")
     if told == "[2 x i64]" and bare == "{ i64, double }":
-        # A struct of a number and a double goes in two registers for numbers.
-        return "{ i64, i64 }", body.replace(bare, "{ i64, i64 }")
+        # A struct of a number and a double goes in two registers for numbers: it is read as two numbers where it is handed back.
+        handed = re.search(r"(?m)^  (%\w+) = load \{ i64, double \}(, ptr %\w+, align 8\n  ret )\{ i64, double \} \1$", body)
+        if handed and body.count(" ret ") == 1:
+            return "{ i64, i64 }", body.replace(handed[0], f"  {handed[1]} = load {{ i64, i64 }}{handed[2]}{{ i64, i64 }} {handed[1]}")
     if (told, bare) in (("[2 x i64]", "{ i64, i64 }"), ("i64", "i64")):
         return given, body
     raise Unsure(f"{name}: the answer {given} on x86-64 is {told} on aarch64")
@@ -107,4 +109,4 @@ def retarget(module, told):
             raise Unsure(f"the module has {count} lines of its {line}")
     if "byval(" in module:
         raise Unsure("a struct that goes on the stack inside the module")
-    return module.replace('"target-cpu"="x86-64"', '"target-cpu"="generic"')
+    return re.sub(r'"target-cpu"="x86-64[\w-]*"', '"target-cpu"="generic"', module)
