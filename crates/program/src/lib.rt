@@ -1,7 +1,7 @@
 // The programs' work, from a reader to a writer: a sheet is read, and its text is written, document 01, "Program and values"; or a question about a
 // pixel of it is read, and the answer is written, document 02, (v).
-// What is read is read to its end, and what is written is its text, where the reader and the writer say which bytes they give and hold. A file, a terminal
-// and a pipe do not; what the programs do on files is played by `replay_sheets`.
+// What is read is read to its end, or to one byte more than there may be, and what is written is its text, where the reader and the writer say which bytes
+// they give and hold. A file, a terminal and a pipe do not; what the programs do on files is played by `replay_sheets`.
 #![tactic(auto)]
 
 ghost use Rattle.std.specs.Prelude.{◌≡◌, ◌++◌, ◌≤◌, ◌<◌, length, take, drop, IfOk, OnOk, OnErr};
