@@ -8,6 +8,8 @@ use native.Mathlib.Nat.{zero-lt-suc}
 use lib.IntN.{pos}
 use lib.Ieee.{binary64, fits, of_bits, to_bits, of_fields, add, mul, div, neg, lt, le, eq, round, sum, units, odd, size, span, climb}
 use Rattle.base.specs.Lists.{Every}
+use Rattle.std.specs.Prelude.{Result, Ok, Err}
+use Rattle.refusal.specs.declared.Refusal.{Refusal}
 use Rattle.refusal.specs.declared.Refusal.TheVariants as R
 use Rattle.interval.specs.declared.Interval.{Interval}
 use Rattle.interval.specs.Bounds.{in_units, zero_as, put_interval, legal_interval, whole_bound}
@@ -18,8 +20,7 @@ use Rattle.coordinate.specs.declared.Coordinate.{Coordinate}
 use Rattle.coordinate.specs.Axis.{in_range, places, inside}
 use Rattle.boxes.specs.declared.Plot.{Plot}
 use Rattle.boxes.specs.declared.Edges.{Edges}
-use Rattle.boxes.specs.declared.BoxAnswer.{BoxAnswer}
-use Rattle.boxes.specs.declared.BoxAnswer.TheVariants as B
+use Rattle.boxes.specs.declared.BlockBox.{BlockBox}
 use Rattle.boxes.specs.declared.transformation.MapKind.TheVariants as K
 use Rattle.boxes.specs.Arithmetic.{least_of, greatest_of, around, plus, negative, minus, times, over}
 use Rattle.boxes.specs.Maps.{slope_of, map_of, image_of}
@@ -82,81 +83,85 @@ overlapping_right = bounds 0xc018000000000009 0x4028000000000003
 abbrev at_index : ℕ → ℕ → Coordinate
 at_index i rank = record { index = i; rank = rank }
 
+-- a box of these edges and intervals
+abbrev boxed : Edges → Interval → Interval → Result BlockBox Refusal
+boxed e x y = Ok (record { edges = e; x = x; y = y })
+
 -- asked, and answered
-abbrev table : List (BoxAnswer × BoxAnswer)
+abbrev table : List (Result BlockBox Refusal × Result BlockBox Refusal)
 table =
     -- a block of 2 by 2 pixels: quick map
     (
       box_of plotted K.Quick (at_index 1 49) (at_index 0 49),
-      B.Box (edges_at (bounds 0x3fdffffffffffffa 0x3fe0000000000005) (bounds 0x3feffffffffffffa 0x3ff0000000000005)
+      boxed (edges_at (bounds 0x3fdffffffffffffa 0x3fe0000000000005) (bounds 0x3feffffffffffffa 0x3ff0000000000005)
           (bounds 0x8000000000000004 0x0000000000000004) (bounds 0x3feffffffffffffa 0x3ff0000000000005))
           (bounds 0x3fdffffffffffffa 0x3ff0000000000005) (bounds 0x8000000000000004 0x3ff0000000000005),
     )
     -- a quarter of a pixel: quick map
     ∷ (
       box_of plotted K.Quick (at_index 3 47) (at_index 4 47),
-      B.Box (edges_at (bounds 0x3fd7fffffffffffb 0x3fd8000000000006) (bounds 0x3fdffffffffffffa 0x3fe0000000000005)
+      boxed (edges_at (bounds 0x3fd7fffffffffffb 0x3fd8000000000006) (bounds 0x3fdffffffffffffa 0x3fe0000000000005)
           (bounds 0x3feffffffffffffa 0x3ff0000000000005) (bounds 0x3ff3fffffffffffc 0x3ff4000000000006))
           (bounds 0x3fd8000000000000 0x3fe0000000000005) (bounds 0x3feffffffffffffa 0x3ff4000000000001),
     )
     -- a block of 2 by 2 pixels: precise map
     ∷ (
       box_of plotted K.Precise (at_index 1 49) (at_index 0 49),
-      B.Box (edges_at (bounds 0x3fdffffffffffff9 0x3fe0000000000006) (bounds 0x3feffffffffffff9 0x3ff0000000000006)
+      boxed (edges_at (bounds 0x3fdffffffffffff9 0x3fe0000000000006) (bounds 0x3feffffffffffff9 0x3ff0000000000006)
           (bounds 0x8000000000000004 0x0000000000000004) (bounds 0x3feffffffffffff9 0x3ff0000000000006))
           (bounds 0x3fdffffffffffff9 0x3ff0000000000006) (bounds 0x8000000000000004 0x3ff0000000000006),
     )
     -- a quarter of a pixel: precise map
     ∷ (
       box_of plotted K.Precise (at_index 3 47) (at_index 4 47),
-      B.Box (edges_at (bounds 0x3fd7fffffffffffa 0x3fd8000000000007) (bounds 0x3fdffffffffffff9 0x3fe0000000000006)
+      boxed (edges_at (bounds 0x3fd7fffffffffffa 0x3fd8000000000007) (bounds 0x3fdffffffffffff9 0x3fe0000000000006)
           (bounds 0x3feffffffffffff9 0x3ff0000000000006) (bounds 0x3ff3fffffffffffa 0x3ff4000000000006))
           (bounds 0x3fd8000000000000 0x3fe0000000000006) (bounds 0x3feffffffffffff9 0x3ff4000000000000),
     )
     -- 1: no side, and everything else is wrong too
-    ∷ (box_of (plot_of 0 4 2 2 (edges_at at_0 turned_round at_0 at_1)) K.Quick (at_index 9 15) (at_index 9 63), B.Refused R.Side)
+    ∷ (box_of (plot_of 0 4 2 2 (edges_at at_0 turned_round at_0 at_1)) K.Quick (at_index 9 15) (at_index 9 63), Err R.Side)
     -- 16: paddings of 2 and 2 leave nothing of 4
-    ∷ (box_of (plot_of 4 4 2 2 (edges_at at_0 turned_round at_0 at_1)) K.Quick (at_index 9 15) (at_index 9 63), B.Refused R.Padding)
+    ∷ (box_of (plot_of 4 4 2 2 (edges_at at_0 turned_round at_0 at_1)) K.Quick (at_index 9 15) (at_index 9 63), Err R.Padding)
     -- 16: paddings whose sum passes 32 bits
-    ∷ (box_of (plot_of 4 4 4294967295 4294967295 (edges_at at_0 at_1 at_0 at_1)) K.Quick (at_index 0 48) (at_index 0 48), B.Refused R.Padding)
+    ∷ (box_of (plot_of 4 4 4294967295 4294967295 (edges_at at_0 at_1 at_0 at_1)) K.Quick (at_index 0 48) (at_index 0 48), Err R.Padding)
     -- 3: an edge in [2, 1]
-    ∷ (box_of (plot_of 4 4 1 2 (edges_at at_0 turned_round at_0 at_1)) K.Quick (at_index 9 15) (at_index 9 63), B.Refused R.Parameter)
+    ∷ (box_of (plot_of 4 4 1 2 (edges_at at_0 turned_round at_0 at_1)) K.Quick (at_index 9 15) (at_index 9 63), Err R.Parameter)
     -- 8: an index past the last, though the right edge may be at infinity
-    ∷ (box_of (plot_of 4 4 0 0 (edges_at at_0 to_infinity at_0 at_1)) K.Quick (at_index 4 48) (at_index 0 48), B.Refused R.Damaged)
+    ∷ (box_of (plot_of 4 4 0 0 (edges_at at_0 to_infinity at_0 at_1)) K.Quick (at_index 4 48) (at_index 0 48), Err R.Damaged)
     -- 8: level -33
-    ∷ (box_of (plot_of 4 4 0 0 (edges_at at_0 at_1 at_0 at_1)) K.Precise (at_index 0 15) (at_index 0 15), B.Refused R.Damaged)
+    ∷ (box_of (plot_of 4 4 0 0 (edges_at at_0 at_1 at_0 at_1)) K.Precise (at_index 0 15) (at_index 0 15), Err R.Damaged)
     -- 8: two levels
-    ∷ (box_of (plot_of 4 4 0 0 (edges_at at_0 at_1 at_0 at_1)) K.Quick (at_index 0 47) (at_index 0 48), B.Refused R.Damaged)
+    ∷ (box_of (plot_of 4 4 0 0 (edges_at at_0 at_1 at_0 at_1)) K.Quick (at_index 0 47) (at_index 0 48), Err R.Damaged)
     -- 15: a right edge that may be at infinity
-    ∷ (box_of (plot_of 4 4 0 0 (edges_at at_0 to_infinity at_0 at_1)) K.Quick (at_index 3 48) (at_index 0 48), B.Refused R.Bounds)
+    ∷ (box_of (plot_of 4 4 0 0 (edges_at at_0 to_infinity at_0 at_1)) K.Quick (at_index 3 48) (at_index 0 48), Err R.Bounds)
     -- 15: the left edge at 1 and the right one at 0, so that the ends cross
-    ∷ (box_of (plot_of 4 4 0 0 (edges_at at_1 at_0 at_0 at_1)) K.Precise (at_index 3 48) (at_index 0 48), B.Refused R.Bounds)
+    ∷ (box_of (plot_of 4 4 0 0 (edges_at at_1 at_0 at_0 at_1)) K.Precise (at_index 3 48) (at_index 0 48), Err R.Bounds)
     -- paddings of 1, 2, 3 and 0 about 5 by 7 pixels, and a block of 4 by 4 that is clipped at both sides
     ∷ (
       box_of padded K.Quick (at_index 1 50) (at_index 1 50),
-      B.Box (edges_at (bounds 0x3ff7fffffffffff7 0x3ff800000000000b) (bounds 0x3ffffffffffffff7 0x4000000000000007)
+      boxed (edges_at (bounds 0x3ff7fffffffffff7 0x3ff800000000000b) (bounds 0x3ffffffffffffff7 0x4000000000000007)
           (bounds 0x3fdfffffffffffd3 0x3fe000000000001b) (bounds 0x3fffffffffffffef 0x4000000000000009))
           (bounds 0x3ff7fffffffffff7 0x4000000000000007) (bounds 0x3fdfffffffffffd3 0x4000000000000009),
     )
     -- 15: the edges stand in order, and the outermost ends do not cross, but the narrowed ones do
-    ∷ (box_of (plot_of 1 1 0 0 (edges_at at_0 (bounds 1 1) at_0 at_1)) K.Quick (at_index 4 45) (at_index 4 45), B.Refused R.Bounds)
+    ∷ (box_of (plot_of 1 1 0 0 (edges_at at_0 (bounds 1 1) at_0 at_1)) K.Quick (at_index 4 45) (at_index 4 45), Err R.Bounds)
     -- ends that are equal do not cross
     ∷ (
       box_of (plot_of 1 1 0 0 turned_edges) K.Precise (at_index 0 48) (at_index 0 48),
-      B.Box (edges_at (bounds 0x3fb9999999999999 0x3fb999999999999b) (bounds 0x3fb9999999999997 0x3fb9999999999999)
+      boxed (edges_at (bounds 0x3fb9999999999999 0x3fb999999999999b) (bounds 0x3fb9999999999997 0x3fb9999999999999)
           (bounds 0x8000000000000004 0x0000000000000004) (bounds 0x3feffffffffffff9 0x3ff0000000000006))
           (bounds 0x3fb9999999999999 0x3fb9999999999999) (bounds 0x8000000000000004 0x3ff0000000000006),
     )
     -- edges that overlap have a box
     ∷ (
       box_of overlapping K.Quick (at_index 0 48) (at_index 0 48),
-      B.Box (edges_at overlapping_left overlapping_right
+      boxed (edges_at overlapping_left overlapping_right
           (bounds 0x8000000000000004 0x0000000000000004) (bounds 0x3feffffffffffffa 0x3ff0000000000005))
           (bounds 0x400ffffffffffffe 0x4028000000000003) (bounds 0x8000000000000004 0x3ff0000000000005),
     )
     ∷ []
 
-pub boxes_computed : Every (λ (r : BoxAnswer × BoxAnswer). r.0 ≡ r.1) table
+pub boxes_computed : Every (λ (r : Result BlockBox Refusal × Result BlockBox Refusal). r.0 ≡ r.1) table
 unfolding box_of box_along low_end high_end middle_of low_edge high_edge axis_map point_at in_pixels image_of map_of slope_of over times minus negative plus around
     greatest_of least_of next_below next_above put_interval zero_as legal_interval whole_bound in_units rounded half_sum kind_of middle_at in_range places inside of_bits to_bits
     of_fields add mul div neg lt le eq round sum units odd size span climb

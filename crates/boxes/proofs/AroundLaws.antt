@@ -6,21 +6,22 @@ use mathlib.Core.Bool.{Bool, true, false, ◌&&◌, cond}
 use lib.IntN.{ℤ}
 use lib.Signed.{le_z, lt_z}
 use lib.Dec.{T}
-use lib.Ieee.{Float, nan, inf, fin, binary64, lt, div, fits}
+use lib.Ieee.{Float, nan, inf, fin, binary64, lt, fits}
 use lib.Ieee.Scale.{finite}
 use Rattle.base.proofs.Test.{≡→T, cases, cond_yes, cond_no, and_left, and_right, and_both, T→≡}
 use Rattle.interval.specs.declared.Interval.{Interval}
 use Rattle.interval.specs.Bounds.{InFormat, whole_line, in_units, zero_as, plus_zero, put_interval}
 use Rattle.interval.specs.Middle.{rounded}
-use Rattle.interval.specs.Next.{nought, next_below, next_above}
+use Rattle.interval.specs.Next.{next_below, next_above}
 use Rattle.interval.proofs.Compare.{lt_units}
 use Rattle.interval.proofs.WholeOrder.{le_z_trans}
 use Rattle.interval.proofs.HalfBetween.{rounded_fits}
+use Rattle.interval.proofs.FiniteEnds.{finite_is}
 use Rattle.interval.proofs.ProperPieces.{put_format}
 use Rattle.interval.proofs.Zeros.{as_units, keeps_finite, was_finite}
 use Rattle.interval.proofs.Beside.{next_fits, above_fits, next_lt, above_lt}
 use Rattle.boxes.specs.Ratios.{Ratio, ◌⊑◌, of_units, NotOver, NotUnder, Encloses}
-use Rattle.boxes.specs.Arithmetic.{finite_bounds, lesser, greater, least_of, greatest_of, around, corners, over}
+use Rattle.boxes.specs.Arithmetic.{lesser, greater, least_of, greatest_of, around}
 use Rattle.boxes.proofs.Integers.{le_z_refl, lt_le, le_lt, not_lt, lt_le_z}
 use Rattle.boxes.proofs.RoundedBounds.{below_exact, above_exact}
 
@@ -236,27 +237,6 @@ pub around_not : (p q r s : Float) → all_finite p q r s ≡ false → around p
 unfolding around
 around_not p q r s h = cond_no (all_finite p q r s) (put_interval (outside p q r s)) whole_line h
 
--- as the code comes to it
-pub outward_yes : (p q r s : Float) {t : Bool} {lower upper : Float} {w : Interval} → t ≡ all_finite p q r s → t ≡ true → lower ≡ next_below (least_of p q r s)
-    → upper ≡ next_above (greatest_of p q r s) → w ≡ put_interval (record { lower = lower; upper = upper }) → w ≡ around p q r s
-outward_yes p q r s e h l u g = g ∙ (λ i. put_interval (record { lower = l i; upper = u i })) ∙ sym (around_is p q r s (sym e ∙ h))
-
-pub outward_no : (p q r s : Float) {t : Bool} → t ≡ all_finite p q r s → t ≡ false → whole_line ≡ around p q r s
-outward_no p q r s e h = sym (around_not p q r s (sym e ∙ h))
-
--- likewise the quotient
-module _ (x y : Interval) {t : Bool} (e : t ≡ finite_bounds y && lt nought y.lower) where
-  abbrev positive : Bool
-  positive = finite_bounds y && lt nought y.lower
-
-  pub over_yes : {w : Interval} → t ≡ true → w ≡ corners (div binary64) x y → w ≡ over x y
-  unfolding over
-  over_yes h g = g ∙ sym (cond_yes positive (corners (div binary64) x y) whole_line (sym e ∙ h))
-
-  pub over_no : t ≡ false → whole_line ≡ over x y
-  unfolding over
-  over_no h = sym (cond_no positive (corners (div binary64) x y) whole_line (sym e ∙ h))
-
 -- the whole line encloses everything
 pub line_encloses : (v : Ratio) → Encloses whole_line v
 line_encloses v = (tt, tt)
@@ -305,3 +285,6 @@ around_format p q r s f =
     cases (all_finite p q r s)
     (λ (e : all_finite p q r s ≡ true). subst InFormat (sym (around_is p q r s e)) (put_format (outside p q r s) (low, high)))
     (λ (e : all_finite p q r s ≡ false). subst InFormat (sym (around_not p q r s e)) line_format)
+
+-- std's test of a number, for functions that make it
+pub ruleset finite_rules = (finite_is)

@@ -3,30 +3,30 @@ use mathlib.Core.Path.{◌≡◌, ap, ◌∙◌}
 use mathlib.Core.Bool.{Bool, true, false, ◌&&◌, cond, false≢true}
 use lib.Dec.{eqb}
 use Rattle.base.proofs.Test.{and_left, and_right, cases}
+use Rattle.std.specs.Prelude.{Result, Ok, Err}
 use Rattle.refusal.specs.declared.Refusal.{Refusal}
 use Rattle.refusal.specs.declared.Refusal.TheVariants as R
-use Rattle.interval.specs.declared.Interval.{Interval}
 use Rattle.coordinate.specs.declared.Coordinate.{Coordinate}
 use Rattle.coordinate.specs.Axis.{legal_side}
 use Rattle.coordinate.specs.Lone.{place_right}
 use Rattle.boxes.specs.declared.Plot.{Plot}
 use Rattle.boxes.specs.declared.Edges.{Edges}
-use Rattle.boxes.specs.declared.BoxAnswer.{BoxAnswer}
-use Rattle.boxes.specs.declared.BoxAnswer.TheVariants as B
+use Rattle.boxes.specs.declared.BlockBox.{BlockBox}
 use Rattle.boxes.specs.declared.axis.AxisBox.{AxisBox}
 use Rattle.boxes.specs.declared.transformation.MapKind.{MapKind}
 use Rattle.boxes.specs.Pixels.{low_edge, high_edge}
 use Rattle.boxes.specs.Boxes.{x_axis, y_axis, has_room, box_along, is_sound, joined, box_of}
-use Rattle.boxes.proofs.BoxLaws.{Placed, placed, side_small, room_of, sides, room, edges, places, box_1, box_16, box_3, box_8, box_found}
+use Rattle.boxes.specs.PixelsComputed.{Placed}
+use Rattle.boxes.proofs.BoxLaws.{placed, side_small, room_of, sides, room, edges, places, box_1, box_16, box_3, box_8, box_found}
 use Rattle.boxes.proofs.AxisEnclosures.{Sound}
 
-is_box : BoxAnswer → Bool
-is_box (B.Box e x y) = true
-is_box (B.Refused why) = false
+is_box : Result BlockBox Refusal → Bool
+is_box (Ok b) = true
+is_box (Err why) = false
 
-edges_in : Edges → BoxAnswer → Edges
-edges_in d (B.Box e x y) = e
-edges_in d (B.Refused why) = d
+edges_in : Edges → Result BlockBox Refusal → Edges
+edges_in d (Ok b) = b.edges
+edges_in d (Err why) = d
 
 abbrev pub edges_along : Plot → MapKind → Coordinate → Coordinate → Edges
 edges_along p kind i j =
@@ -39,8 +39,8 @@ pub record Answered (p : Plot) (kind : MapKind) (i j : Coordinate) (e : Edges) :
   pub second : Placed j
   pub these : edges_along p kind i j ≡ e
 
-module _ (p : Plot) (kind : MapKind) (i j : Coordinate) (e : Edges) (x y : Interval) (h : box_of p kind i j ≡ B.Box e x y) where
-  not_refused : (why : Refusal) → B.Refused why ≡ box_of p kind i j → ⊥
+module _ (p : Plot) (kind : MapKind) (i j : Coordinate) (b : BlockBox) (h : box_of p kind i j ≡ Ok b) where
+  not_refused : (why : Refusal) → Err why ≡ box_of p kind i j → ⊥
   unfolding is_box
   not_refused why r = false≢true (ap is_box (r ∙ h))
 
@@ -56,7 +56,7 @@ module _ (p : Plot) (kind : MapKind) (i j : Coordinate) (e : Edges) (x y : Inter
   pub passes_places : places p kind i j ≡ true
   passes_places = cases (places p kind i j) (λ t. t) (λ t. absurd (not_refused R.Damaged (box_8 p kind i j passes_sides passes_room passes_edges t)))
 
-  these_edges : edges_along p kind i j ≡ e
+  these_edges : edges_along p kind i j ≡ b.edges
   unfolding is_box edges_in box_along
   these_edges =
       go (is_sound X && is_sound Y) (box_found p kind i j passes_sides passes_room passes_edges passes_places ∙ h)
@@ -67,11 +67,11 @@ module _ (p : Plot) (kind : MapKind) (i j : Coordinate) (e : Edges) (x y : Inter
       Y : AxisBox
       Y = box_along kind (y_axis p) j
 
-      go : (t : Bool) → cond t (joined (box_along kind (x_axis p) i) (box_along kind (y_axis p) j)) (B.Refused R.Bounds) ≡ B.Box e x y → edges_along p kind i j ≡ e
-      go true k = ap (edges_in e) k
+      go : (t : Bool) → cond t (Ok (joined (box_along kind (x_axis p) i) (box_along kind (y_axis p) j))) (Err R.Bounds) ≡ Ok b → edges_along p kind i j ≡ b.edges
+      go true k = ap (edges_in b.edges) k
       go false k = absurd (false≢true (ap is_box k))
 
-  pub answered : Answered p kind i j e
+  pub answered : Answered p kind i j b.edges
   answered =
       let w = legal_side p.width in
       let v = legal_side p.height in

@@ -8,8 +8,9 @@ use lib.Dec.{T, eqb, eqb→eq}
 use lib.Ieee.{Float, binary64, lt, le, fits}
 use lib.Ieee.Scale.{finite}
 use Rattle.base.proofs.Test.{≡→T, and_right}
+use Rattle.std.specs.Prelude.{Ok, Err}
 use Rattle.refusal.specs.declared.Refusal.TheVariants as R
-use Rattle.refusal.specs.Number.{first_of}
+use Rattle.refusal.specs.Number.{answer_number, first_of}
 use Rattle.refusal.proofs.Rows.{row, none, one_fails}
 use Rattle.interval.specs.declared.Interval.{Interval}
 use Rattle.interval.specs.Bounds.{legal_interval}
@@ -19,14 +20,12 @@ use Rattle.coordinate.specs.declared.Coordinate.{Coordinate}
 use Rattle.coordinate.specs.Axis.{legal_side}
 use Rattle.coordinate.specs.Lone.{place_right}
 use Rattle.boxes.specs.declared.Plot.{Plot}
-use Rattle.boxes.specs.declared.Edges.{Edges}
-use Rattle.boxes.specs.declared.BoxAnswer.TheVariants as B
+use Rattle.boxes.specs.declared.BlockBox.{BlockBox}
 use Rattle.boxes.specs.declared.axis.PlotAxis.{PlotAxis}
 use Rattle.boxes.specs.declared.transformation.MapKind.{MapKind}
 use Rattle.boxes.specs.Arithmetic.{finite_bounds, plus, minus, times, over}
 use Rattle.boxes.specs.Pixels.{parts_of, point_at, begins_at, clipped_end, axis_map, low_edge, high_edge}
 use Rattle.boxes.specs.Boxes.{x_axis, y_axis, has_room, has_legal_edges, box_along, is_sound, joined, box_of}
-use Rattle.boxes.specs.Answers.{box_number}
 use Rattle.boxes.specs.Enclosure.{exact_pixels, mapped_to, EdgesEnclosed, PointsEnclosed}
 use Rattle.boxes.proofs.BoxLaws.{sides, room, edges, places, from_room, from_edges, from_places, found}
 use Rattle.boxes.proofs.AxisEnclosures.{low_around, high_around, further, ends_hold}
@@ -44,7 +43,7 @@ one_of_three false b c = refl
 -- "Refusals: 1, then 16 if padding leaves no width or height, 3 for an edge interval that isn't legal, 8 for the coordinates or a block outside the picture, 15 if an
 -- operation's bound isn't finite, or a box's outermost or narrowed ends cross": the number of the first row that applies, and 0 where none does
 pub box_number_lem : (p : Plot) (kind : MapKind) (i j : Coordinate)
-    → box_number (box_of p kind i j)
+    → answer_number (box_of p kind i j)
     ≡ first_of ((1, not (legal_side p.width) || not (legal_side p.height))
     ∷ (16, not (has_room (x_axis p)) || not (has_room (y_axis p)))
     ∷ (3, not (has_legal_edges (x_axis p)) || not (has_legal_edges (y_axis p)))
@@ -53,13 +52,13 @@ pub box_number_lem : (p : Plot) (kind : MapKind) (i j : Coordinate)
     ∷ [])
 unfolding box_of
 box_number_lem p kind i j =
-    row box_number (sides p kind i j) (B.Refused R.Side) _ (from_room p kind i j) _ (one_fails (legal_side p.width) (legal_side p.height))
-    (λ _. row box_number (room p kind i j) (B.Refused R.Padding) _ (from_edges p kind i j) _ (one_fails (has_room (x_axis p)) (has_room (y_axis p)))
-    (λ _. row box_number (edges p kind i j) (B.Refused R.Parameter) _ (from_places p kind i j) _ (one_fails (has_legal_edges (x_axis p)) (has_legal_edges (y_axis p)))
-    (λ _. row box_number (places p kind i j) (B.Refused R.Damaged) _ (found p kind i j) _
+    row answer_number (sides p kind i j) (Err R.Side) _ (from_room p kind i j) _ (one_fails (legal_side p.width) (legal_side p.height))
+    (λ _. row answer_number (room p kind i j) (Err R.Padding) _ (from_edges p kind i j) _ (one_fails (has_room (x_axis p)) (has_room (y_axis p)))
+    (λ _. row answer_number (edges p kind i j) (Err R.Parameter) _ (from_places p kind i j) _ (one_fails (has_legal_edges (x_axis p)) (has_legal_edges (y_axis p)))
+    (λ _. row answer_number (places p kind i j) (Err R.Damaged) _ (found p kind i j) _
     (one_of_three (place_right p.width i) (place_right p.height j) (eqb i.rank j.rank))
-    (λ _. row box_number (is_sound (box_along kind (x_axis p) i) && is_sound (box_along kind (y_axis p) j)) (B.Refused R.Bounds) _
-    (joined (box_along kind (x_axis p) i) (box_along kind (y_axis p) j)) _ (one_fails (is_sound (box_along kind (x_axis p) i)) (is_sound (box_along kind (y_axis p) j)))
+    (λ _. row answer_number (is_sound (box_along kind (x_axis p) i) && is_sound (box_along kind (y_axis p) j)) (Err R.Bounds) _
+    (Ok (joined (box_along kind (x_axis p) i) (box_along kind (y_axis p) j))) _ (one_fails (is_sound (box_along kind (x_axis p) i)) (is_sound (box_along kind (y_axis p) j)))
     (λ _. none)))))
 
 -- "an operation's bound isn't finite": an operation on a bound that is not finite has one that is not, so that it shows in the edges
@@ -94,20 +93,20 @@ next_number_above x y f g u v = (above_fits x f, above_lt x f g, next_least x y 
 
 -- ---- THE ENCLOSURE
 
-module _ (p : Plot) (kind : MapKind) (i j : Coordinate) (e : Edges) (x y : Interval) (h : box_of p kind i j ≡ B.Box e x y) where
+module _ (p : Plot) (kind : MapKind) (i j : Coordinate) (b : BlockBox) (h : box_of p kind i j ≡ Ok b) where
   -- a block that has a box is on one level, and not below level -32
   pub box_levels : i.rank ≡ j.rank
   box_levels =
-      eqb→eq i.rank j.rank (≡→T (and_right (place_right p.width i && place_right p.height j) (eqb i.rank j.rank) (passes_places p kind i j e x y h)))
+      eqb→eq i.rank j.rank (≡→T (and_right (place_right p.width i && place_right p.height j) (eqb i.rank j.rank) (passes_places p kind i j b h)))
 
   pub box_placed : (16 ≤ i.rank) × (16 ≤ j.rank)
-  box_placed = let a = answered p kind i j e x y h in (a.first.low, a.second.low)
+  box_placed = let a = answered p kind i j b h in (a.first.low, a.second.low)
 
   -- "Proved for each of the four edges, before narrowing: wherever in their intervals the picture's edges stand, the exact mapped value, as a fraction of whole
   -- numbers, lies inside."
-  pub edges_enclosed : EdgesEnclosed p i j e
+  pub edges_enclosed : EdgesEnclosed p i j b.edges
   edges_enclosed =
-      let a = answered p kind i j e x y h in
+      let a = answered p kind i j b h in
       subst (EdgesEnclosed p i j) a.these (
         (λ X0 X1 z.
             ((low_around kind (x_axis p) a.across X0 X1 z i a.first.ends).1, (high_around kind (x_axis p) a.across X0 X1 z i a.first.ends).1)),
@@ -115,19 +114,19 @@ module _ (p : Plot) (kind : MapKind) (i j : Coordinate) (e : Edges) (x y : Inter
       )
 
   -- the outermost ends hold what every point of the block is mapped to, where the picture's edges stand in order
-  pub points_enclosed : PointsEnclosed p i j e
+  pub points_enclosed : PointsEnclosed p i j b.edges
   points_enclosed =
       let E = edges_enclosed in
       let a = x_axis p in
-      let b = y_axis p in (
+      let c = y_axis p in (
         (λ X0 X1 P z o u v.
             let k = E.0 X0 X1 z in
-            let b = exact_pixels (begins_at i) in
+            let z0 = exact_pixels (begins_at i) in
             let d = exact_pixels (clipped_end a.side i) in
-            ends_hold e.left e.right (mapped_to a X0 X1 b) (mapped_to a X0 X1 P) (mapped_to a X0 X1 d) k.0 k.1 (further a X0 X1 b P o u) (further a X0 X1 P d o v)),
+            ends_hold b.edges.left b.edges.right (mapped_to a X0 X1 z0) (mapped_to a X0 X1 P) (mapped_to a X0 X1 d) k.0 k.1 (further a X0 X1 z0 P o u) (further a X0 X1 P d o v)),
         (λ Y0 Y1 P z o u v.
             let k = E.1 Y0 Y1 z in
-            let c = exact_pixels (begins_at j) in
-            let d = exact_pixels (clipped_end b.side j) in
-            ends_hold e.bottom e.top (mapped_to b Y0 Y1 c) (mapped_to b Y0 Y1 P) (mapped_to b Y0 Y1 d) k.0 k.1 (further b Y0 Y1 c P o u) (further b Y0 Y1 P d o v)),
+            let z0 = exact_pixels (begins_at j) in
+            let d = exact_pixels (clipped_end c.side j) in
+            ends_hold b.edges.bottom b.edges.top (mapped_to c Y0 Y1 z0) (mapped_to c Y0 Y1 P) (mapped_to c Y0 Y1 d) k.0 k.1 (further c Y0 Y1 z0 P o u) (further c Y0 Y1 P d o v)),
       )

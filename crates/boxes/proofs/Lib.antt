@@ -11,7 +11,6 @@ pub mod AroundLaws
 pub mod Enclosures
 pub mod MapEnclosures
 -- a block's edges in pixels, its box
-pub mod MapLaws
 pub mod PixelPoints
 pub mod BoxLaws
 pub mod AxisEnclosures

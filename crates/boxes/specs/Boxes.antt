@@ -1,7 +1,8 @@
 -- Document 02, (ii): "a block's box comes out as four intervals, clipped or not as `region_clipped` and `region` say, and from level 0 down narrowed to two as
 -- `subpixel_outer` says"; and its refusals, in their order.
-use Rattle.std.specs.Prelude.{ℕ, ◌+◌, ◌-◌, ◌%◌, ◌^◌, Bool, false, ◌&&◌, cond, ltb, eqb, Float}
+use Rattle.std.specs.Prelude.{ℕ, ◌+◌, ◌-◌, ◌%◌, ◌^◌, Bool, false, ◌&&◌, cond, Result, Ok, Err, ltb, eqb, Float}
 use Rattle.std.specs.Float.Ieee.{le}
+use Rattle.refusal.specs.declared.Refusal.{Refusal}
 use Rattle.refusal.specs.declared.Refusal.TheVariants as R
 use Rattle.refusal.specs.Number.{refused_unless}
 use Rattle.interval.specs.declared.Interval.{Interval}
@@ -11,8 +12,7 @@ use Rattle.coordinate.specs.declared.Coordinate.{Coordinate}
 use Rattle.coordinate.specs.Axis.{legal_side}
 use Rattle.coordinate.specs.Lone.{place_right}
 use Rattle.boxes.specs.declared.Plot.{Plot}
-use Rattle.boxes.specs.declared.BoxAnswer.{BoxAnswer}
-use Rattle.boxes.specs.declared.BoxAnswer.TheVariants as B
+use Rattle.boxes.specs.declared.BlockBox.{BlockBox}
 use Rattle.boxes.specs.declared.axis.PlotAxis.{PlotAxis}
 use Rattle.boxes.specs.declared.axis.AxisBox.{AxisBox}
 use Rattle.boxes.specs.declared.transformation.MapKind.{MapKind}
@@ -63,19 +63,20 @@ abbrev pub has_legal_edges : PlotAxis → Bool
 has_legal_edges a = legal_interval a.from false && legal_interval a.upto false
 
 -- the box of what was found along both axes
-abbrev pub joined : AxisBox → AxisBox → BoxAnswer
-joined x y = B.Box (record { left = x.low; right = x.high; bottom = y.low; top = y.high }) x.narrowed y.narrowed
+abbrev pub joined : AxisBox → AxisBox → BlockBox
+joined x y =
+    record { edges = record { left = x.low; right = x.high; bottom = y.low; top = y.high }; x = x.narrowed; y = y.narrowed }
 
 -- and 15 where it is not sound
-abbrev pub box_from : AxisBox → AxisBox → BoxAnswer
-box_from x y = refused_unless (B.Refused R.Bounds) (is_sound x && is_sound y) (joined x y)
+abbrev pub box_from : AxisBox → AxisBox → Result BlockBox Refusal
+box_from x y = refused_unless (Err R.Bounds) (is_sound x && is_sound y) (Ok (joined x y))
 
 -- "Refusals: 1, then 16 if padding leaves no width or height, 3 for an edge interval that isn't legal, 8 for the coordinates or a block outside the picture, 15
 -- if an operation's bound isn't finite, or a box's outermost or narrowed ends cross." Our choice: two levels that differ are 8
-unfoldable pub box_of : Plot → MapKind → Coordinate → Coordinate → BoxAnswer
+unfoldable pub box_of : Plot → MapKind → Coordinate → Coordinate → Result BlockBox Refusal
 box_of p kind i j =
-    refused_unless (B.Refused R.Side) (legal_side p.width && legal_side p.height)
-    (refused_unless (B.Refused R.Padding) (has_room (x_axis p) && has_room (y_axis p))
-    (refused_unless (B.Refused R.Parameter) (has_legal_edges (x_axis p) && has_legal_edges (y_axis p))
-    (refused_unless (B.Refused R.Damaged) (place_right p.width i && place_right p.height j && eqb i.rank j.rank)
+    refused_unless (Err R.Side) (legal_side p.width && legal_side p.height)
+    (refused_unless (Err R.Padding) (has_room (x_axis p) && has_room (y_axis p))
+    (refused_unless (Err R.Parameter) (has_legal_edges (x_axis p) && has_legal_edges (y_axis p))
+    (refused_unless (Err R.Damaged) (place_right p.width i && place_right p.height j && eqb i.rank j.rank)
     (box_from (box_along kind (x_axis p) i) (box_along kind (y_axis p) j)))))

@@ -2,6 +2,7 @@
 pub mod Arithmetic
 pub mod Maps
 pub mod Pixels
+pub mod PixelsComputed
 pub mod Boxes
 pub mod Answers
 pub mod Ratios

@@ -2,15 +2,17 @@
 ghost use Rattle.std.specs.Prelude.{◌≡◌};
 ghost use Rattle.boxes.specs.Arithmetic.{finite_bounds, lesser, greater, least_of, greatest_of, around, plus, negative, minus, times, over};
 
-use interval::{Interval, is_finite, next_above, next_below, put, whole_line};
+use interval::{Interval, next_above, next_below, put, whole_line};
 
 // Whether both bounds are numbers.
+#[tactic(auto, using(crate::proofs::AroundLaws::finite_rules))]
 pub(crate) fn has_finite_bounds(x: Interval) -> bool
     ensures { result ≡ finite_bounds x }
 {
-    is_finite(x.lower) & is_finite(x.upper)
+    x.lower.is_finite() & x.upper.is_finite()
 }
 
+// The contract says which of two equal zeros is answered; of `f64::min` and `f64::max` either may come.
 fn lesser_of(p: f64, q: f64) -> f64
     ensures { result ≡ lesser p q }
 {
@@ -23,12 +25,14 @@ fn greater_of(p: f64, q: f64) -> f64
     if p < q { q } else { p }
 }
 
+#[tactic(auto, unfolding(crate::specs::Arithmetic::least_of))]
 fn least(p: f64, q: f64, r: f64, s: f64) -> f64
     ensures { result ≡ least_of p q r s }
 {
     lesser_of(lesser_of(p, q), lesser_of(r, s))
 }
 
+#[tactic(auto, unfolding(crate::specs::Arithmetic::greatest_of))]
 fn greatest(p: f64, q: f64, r: f64, s: f64) -> f64
     ensures { result ≡ greatest_of p q r s }
 {
@@ -36,10 +40,11 @@ fn greatest(p: f64, q: f64, r: f64, s: f64) -> f64
 }
 
 // Outward from four candidates; the whole line where one is no number.
+#[tactic(auto, using(crate::proofs::AroundLaws::finite_rules), unfolding(crate::specs::Arithmetic::around))]
 fn outward(p: f64, q: f64, r: f64, s: f64) -> Interval
     ensures { result ≡ around p q r s }
 {
-    if is_finite(p) & is_finite(q) & is_finite(r) & is_finite(s) {
+    if p.is_finite() & q.is_finite() & r.is_finite() & s.is_finite() {
         let lower = next_below(least(p, q, r, s));
         let upper = next_above(greatest(p, q, r, s));
         put(Interval { lower, upper })
@@ -49,6 +54,7 @@ fn outward(p: f64, q: f64, r: f64, s: f64) -> Interval
 }
 
 // x + y.
+#[tactic(auto, unfolding(crate::specs::Arithmetic::plus))]
 pub(crate) fn add(x: Interval, y: Interval) -> Interval
     ensures { result ≡ plus x y }
 {
@@ -60,6 +66,7 @@ pub(crate) fn add(x: Interval, y: Interval) -> Interval
 }
 
 // -x, exact.
+#[tactic(auto, unfolding(crate::specs::Arithmetic::negative))]
 pub(crate) fn neg(x: Interval) -> Interval
     ensures { result ≡ negative x }
 {
@@ -70,6 +77,7 @@ pub(crate) fn neg(x: Interval) -> Interval
 }
 
 // x - y.
+#[tactic(auto, unfolding(crate::specs::Arithmetic::minus))]
 pub(crate) fn sub(x: Interval, y: Interval) -> Interval
     ensures { result ≡ minus x y }
 {
@@ -77,6 +85,7 @@ pub(crate) fn sub(x: Interval, y: Interval) -> Interval
 }
 
 // x times y.
+#[tactic(auto, unfolding(crate::specs::Arithmetic::times))]
 pub(crate) fn mul(x: Interval, y: Interval) -> Interval
     ensures { result ≡ times x y }
 {
@@ -88,6 +97,7 @@ pub(crate) fn mul(x: Interval, y: Interval) -> Interval
 }
 
 // x over y, for a y above zero.
+#[tactic(auto, using(crate::proofs::AroundLaws::finite_rules), unfolding(crate::specs::Arithmetic::over))]
 pub(crate) fn div(x: Interval, y: Interval) -> Interval
     ensures { result ≡ over x y }
 {
@@ -95,7 +105,7 @@ pub(crate) fn div(x: Interval, y: Interval) -> Interval
     let b = x.upper;
     let c = y.lower;
     let d = y.upper;
-    if is_finite(c) & is_finite(d) & (0.0 < c) {
+    if c.is_finite() & d.is_finite() & (0.0 < c) {
         outward(a / c, a / d, b / c, b / d)
     } else {
         whole_line()

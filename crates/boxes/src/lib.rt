@@ -19,7 +19,7 @@ mod transformation;
 
 // The padding of a picture, in pixels: its edges stand behind it.
 #[repr(C)]
-#[derive(Clone, Copy)]
+#[derive(Clone, Copy, Debug, PartialEq, Eq)]
 pub struct Padding {
     pub left: u32,
     pub right: u32,
@@ -29,7 +29,7 @@ pub struct Padding {
 
 // Four edges, each by an interval that it stands in: a picture's, or a block's.
 #[repr(C)]
-#[derive(Clone, Copy)]
+#[derive(Clone, Copy, Debug, PartialEq)]
 pub struct Edges {
     pub left: Interval,
     pub right: Interval,
@@ -39,7 +39,7 @@ pub struct Edges {
 
 // A picture with its padding, and the intervals that its edges stand in.
 #[repr(C)]
-#[derive(Clone, Copy)]
+#[derive(Clone, Copy, Debug, PartialEq)]
 pub struct Plot {
     pub width: u32,
     pub height: u32,
@@ -48,67 +48,64 @@ pub struct Plot {
 }
 
 // A block's box: its edges; and the intervals along x and y that the Rust's evaluator is handed, from level 0 down narrowed.
-#[derive(Clone, Copy)]
-pub enum BoxAnswer {
-    Box {
-        edges: Edges,
-        x: Interval,
-        y: Interval,
-    },
-    Refused(Refusal),
+#[derive(Clone, Copy, Debug, PartialEq)]
+pub struct BlockBox {
+    pub edges: Edges,
+    pub x: Interval,
+    pub y: Interval,
 }
 
 // A block's box, by a map of this kind.
-pub fn block_box(plot: Plot, kind: MapKind, x: Coordinate, y: Coordinate) -> BoxAnswer
+#[tactic(auto, using(crate::proofs::BoxLaws::placed, crate::proofs::BoxLaws::side_small), unfolding(crate::specs::Boxes::box_of))]
+pub fn block_box(
+    plot: Plot,
+    kind: MapKind,
+    x: Coordinate,
+    y: Coordinate,
+) -> Result<BlockBox, Refusal>
     ensures { result ≡ box_of plot kind x y }
 {
     if !(is_legal_side(plot.width) & is_legal_side(plot.height)) {
-        return BoxAnswer::Refused(Refusal::Side);
+        return Err(Refusal::Side);
     }
     let across = x_axis(plot);
     let up = y_axis(plot);
     if !(has_room(across) & has_room(up)) {
-        return BoxAnswer::Refused(Refusal::Padding);
+        return Err(Refusal::Padding);
     }
     if !(has_legal_edges(across) & has_legal_edges(up)) {
-        return BoxAnswer::Refused(Refusal::Parameter);
+        return Err(Refusal::Parameter);
     }
     if !(is_placed(x, plot.width) & is_placed(y, plot.height) & (x.rank == y.rank)) {
-        return BoxAnswer::Refused(Refusal::Damaged);
+        return Err(Refusal::Damaged);
     }
     box_of(box_along(kind, across, x), box_along(kind, up, y))
 }
 
 // The box of what was found along both axes, if it is sound.
-fn box_of(x: AxisBox, y: AxisBox) -> BoxAnswer
+fn box_of(x: AxisBox, y: AxisBox) -> Result<BlockBox, Refusal>
     ensures { result ≡ box_from x y }
 {
     if is_sound(x) & is_sound(y) {
-        join(x, y)
+        Ok(join(x, y))
     } else {
-        BoxAnswer::Refused(Refusal::Bounds)
+        Err(Refusal::Bounds)
     }
 }
 
-fn join(x: AxisBox, y: AxisBox) -> BoxAnswer
+fn join(x: AxisBox, y: AxisBox) -> BlockBox
     ensures { result ≡ joined x y }
 {
-    let left = x.low;
-    let right = x.high;
-    let bottom = y.low;
-    let top = y.high;
     let edges = Edges {
-        left,
-        right,
-        bottom,
-        top,
+        left: x.low,
+        right: x.high,
+        bottom: y.low,
+        top: y.high,
     };
-    let along_x = x.narrowed;
-    let along_y = y.narrowed;
-    BoxAnswer::Box {
+    BlockBox {
         edges,
-        x: along_x,
-        y: along_y,
+        x: x.narrowed,
+        y: y.narrowed,
     }
 }
 
@@ -116,44 +113,34 @@ fn join(x: AxisBox, y: AxisBox) -> BoxAnswer
 fn is_sound(b: AxisBox) -> bool
     ensures { result ≡ is_sound b }
 {
-    let low = b.low;
-    let high = b.high;
-    let narrowed = b.narrowed;
-    has_finite_bounds(low)
-        & has_finite_bounds(high)
-        & (low.lower <= high.upper)
-        & (narrowed.lower <= narrowed.upper)
+    has_finite_bounds(b.low)
+        & has_finite_bounds(b.high)
+        & (b.low.lower <= b.high.upper)
+        & (b.narrowed.lower <= b.narrowed.upper)
 }
 
+// The two axes differ in each field that they read, so one function for both would take them all as arguments.
 fn x_axis(plot: Plot) -> PlotAxis
     ensures { result ≡ x_axis plot }
 {
-    let padding = plot.padding;
-    let edges = plot.edges;
-    let from = edges.left;
-    let upto = edges.right;
     PlotAxis {
         side: plot.width,
-        before: padding.left,
-        after: padding.right,
-        from,
-        upto,
+        before: plot.padding.left,
+        after: plot.padding.right,
+        from: plot.edges.left,
+        upto: plot.edges.right,
     }
 }
 
 fn y_axis(plot: Plot) -> PlotAxis
     ensures { result ≡ y_axis plot }
 {
-    let padding = plot.padding;
-    let edges = plot.edges;
-    let from = edges.bottom;
-    let upto = edges.top;
     PlotAxis {
         side: plot.height,
-        before: padding.bottom,
-        after: padding.top,
-        from,
-        upto,
+        before: plot.padding.bottom,
+        after: plot.padding.top,
+        from: plot.edges.bottom,
+        upto: plot.edges.top,
     }
 }
 
@@ -161,7 +148,7 @@ fn y_axis(plot: Plot) -> PlotAxis
 fn has_room(a: PlotAxis) -> bool
     ensures { result ≡ has_room a }
 {
-    (a.before as u64) + (a.after as u64) < (a.side as u64)
+    u64::from(a.before) + u64::from(a.after) < u64::from(a.side)
 }
 
 // Whether both edges stand in legal intervals.

@@ -28,6 +28,7 @@ pub enum Transformation {
 }
 
 // The map that takes a0 to x0 and a1 to x1.
+#[tactic(auto, unfolding(crate::specs::Maps::map_of))]
 pub(crate) fn map_of(
     kind: MapKind,
     a0: Interval,
@@ -51,6 +52,7 @@ pub(crate) fn map_of(
     }
 }
 
+#[tactic(auto, unfolding(crate::specs::Maps::slope_of))]
 fn slope_of(a0: Interval, a1: Interval, x0: Interval, x1: Interval) -> Interval
     ensures { result ≡ slope_of a0 a1 x0 x1 }
 {
@@ -58,6 +60,7 @@ fn slope_of(a0: Interval, a1: Interval, x0: Interval, x1: Interval) -> Interval
 }
 
 // The image of p.
+#[tactic(auto, unfolding(crate::specs::Maps::image_of))]
 pub(crate) fn image(m: Transformation, p: Interval) -> Interval
     ensures { result ≡ image_of m p }
 {

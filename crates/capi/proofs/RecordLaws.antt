@@ -17,13 +17,12 @@ use Rattle.coordinate.specs.declared.Coordinate as Inner
 use Rattle.coordinate.specs.Axis.{level, ordinary_floor, in_range}
 use Rattle.coordinate.specs.Lone.{legal}
 use Rattle.queue.specs.declared.Block.{Block}
-use Rattle.implicit.specs.declared.state.ChildrenAnswer.{ChildrenAnswer}
-use Rattle.implicit.specs.Answers.{children_number}
 use Rattle.capi.specs.declared.records.Coordinate.{Coordinate}
 use Rattle.capi.specs.declared.records.Child.{Child}
 use Rattle.capi.specs.declared.records.Listed.{Listed}
-use Rattle.capi.specs.Engine.{coordinate_record, child_record, children_record}
+use Rattle.capi.specs.Engine.{coordinate_record, child_record, list_record}
 use Rattle.capi.specs.Leaf.{rank_of, coordinate_from}
+use Rattle.decide.specs.declared.children.Children.{Children}
 
 -- A RANK'S LEVEL
 
@@ -113,11 +112,11 @@ legal_by_level c = go c.level c.index
 
 -- AN ARRAY OF FOUR
 
-pub children_record_lem : (l : ChildrenAnswer) (d : Block) (n : ℕ) (p q r s : Child) → length l.children.at ≡ 4 → n ≡ children_number l
-    → p ≡ child_record (get_or l.children.at 0 d) → q ≡ child_record (get_or l.children.at 1 d) → r ≡ child_record (get_or l.children.at 2 d) → s ≡ child_record (get_or l.children.at 3 d)
-    → ◌≡◌ {A = Listed} (record { refusal = n; count = l.children.count; at = p ∷ q ∷ r ∷ s ∷ [] }) (children_record l)
-children_record_lem l d n p q r s h e f g i j =
-    rw (e, f, g, i, j) (ap (λ (k : List Child). record { refusal = children_number l; count = l.children.count; at = k }) (go l.children.at h))
+pub list_record_lem : (l : Children) (d : Block) (n : ℕ) (p q r s : Child) → length l.at ≡ 4
+    → p ≡ child_record (get_or l.at 0 d) → q ≡ child_record (get_or l.at 1 d) → r ≡ child_record (get_or l.at 2 d) → s ≡ child_record (get_or l.at 3 d)
+    → ◌≡◌ {A = Listed} (record { refusal = n; count = l.count; at = p ∷ q ∷ r ∷ s ∷ [] }) (list_record n l)
+list_record_lem l d n p q r s h f g i j =
+    rw (f, g, i, j) (ap (λ (k : List Child). record { refusal = n; count = l.count; at = k }) (go l.at h))
   where
     go : (k : List Block) → length k ≡ 4 → child_record (get_or k 0 d) ∷ child_record (get_or k 1 d) ∷ child_record (get_or k 2 d) ∷ child_record (get_or k 3 d) ∷ [] ≡ map child_record k
     go [] h = absurd (omega arith)

@@ -1,33 +1,33 @@
 -- How the engine's answers cross to other languages: as records that begin with the refusal, 0 or document 01's number. What was refused has blank
 -- values beside its number; a refused step, run or move hands back the record that it was given.
-use Rattle.std.specs.Prelude.{◌≡◌, cond, ◌&&◌, List, map, ℕ, ◌*◌, length}
+use Rattle.std.specs.Prelude.{◌≡◌, cond, ◌&&◌, List, [], map, ℕ, ◌*◌, length, Result, Ok, Err}
 use Rattle.refusal.specs.Number.{number}
 use Rattle.refusal.specs.declared.Refusal.TheVariants as R
+use Rattle.refusal.specs.declared.Refusal.{Refusal}
 use Rattle.coordinate.specs.declared.Coordinate as Inner
 use Rattle.coordinate.specs.Axis.{level}
 use Rattle.queue.specs.declared.Block.{Block}
 use Rattle.tiles.specs.Tiles.{tile_count}
 use Rattle.decide.specs.declared.Chosen.{Chosen}
+use Rattle.decide.specs.declared.children.Children.{Children}
+use Rattle.decide.specs.Children.{listed}
 use Rattle.decide.specs.Damage.{legal_side}
 use Rattle.implicit.specs.declared.state.Ranges.{Ranges}
-use Rattle.implicit.specs.declared.state.NeededAnswer.{NeededAnswer}
 use Rattle.implicit.specs.declared.state.State.{State}
-use Rattle.implicit.specs.declared.state.MoveAnswer.{MoveAnswer}
-use Rattle.implicit.specs.declared.state.SetupAnswer.{SetupAnswer}
-use Rattle.implicit.specs.declared.state.StepAnswer.{StepAnswer}
 use Rattle.implicit.specs.declared.state.Ending.{Ending}
 use Rattle.implicit.specs.declared.state.Ending.TheVariants as E
-use Rattle.implicit.specs.declared.state.RunAnswer.{RunAnswer}
-use Rattle.implicit.specs.declared.state.RunAnswer.TheVariants as N
-use Rattle.implicit.specs.declared.state.ChildrenAnswer.{ChildrenAnswer}
-use Rattle.implicit.specs.declared.state.CountsAnswer.{CountsAnswer}
+use Rattle.implicit.specs.declared.state.Refused.{Refused}
+use Rattle.implicit.specs.declared.state.Finished.{Finished}
+use Rattle.implicit.specs.declared.state.Ended.{Ended}
+use Rattle.implicit.specs.declared.state.Tally.{Tally}
+use Rattle.implicit.specs.Listing.{no_block}
 use Rattle.implicit.specs.Step.{World, StepEnd, world_of, step_answer, world_after}
 use Rattle.implicit.specs.Run.{RunResult, run_answer, world_run}
 use Rattle.implicit.specs.View.{if_done}
 use Rattle.implicit.specs.Tiled.{tiled_setup_answer, tiled_ring_begun, tiled_cells_begun, table_begun, tiled_step_of, table_after, tiled_run_of, table_run}
 use Rattle.implicit.specs.Tiled.{fill_answer, table_filled}
 use Rattle.implicit.specs.Move.{move_of, move_answer, other_after}
-use Rattle.implicit.specs.Answers.{setup_number, setup_state, needed_number, needed_bytes, move_number, move_state, step_number, step_state, step_evaluations, step_verdicts, run_number, run_state, run_steps, run_evaluations, run_tape, run_stop, children_number, counts_number, counts_values}
+use Rattle.implicit.specs.Answers.{setup_number, setup_state, needed_number, needed_bytes, move_number, move_state, step_number, step_state, step_evaluations, step_verdicts, run_number, run_state, run_steps, run_evaluations, run_tape, run_stop, counts_number, counts_values}
 use Rattle.capi.specs.declared.records.Coordinate.{Coordinate}
 use Rattle.capi.specs.declared.records.Child.{Child}
 use Rattle.capi.specs.declared.records.Started.{Started}
@@ -44,15 +44,15 @@ cells_record width height =
     cond (legal_side width && legal_side height) (record { refusal = 0; value = width * height }) (record { refusal = number R.Side; value = 0 })
 
 -- the least ring, and one that is enough
-abbrev pub needed_record : NeededAnswer → Number
+abbrev pub needed_record : Result ℕ Refusal → Number
 needed_record a = record { refusal = needed_number a; value = needed_bytes a }
 
 -- setup
-abbrev pub setup_record : SetupAnswer → Started
+abbrev pub setup_record : Result State Refusal → Started
 setup_record a = record { refusal = setup_number a; state = setup_state a }
 
 -- move
-abbrev pub move_record : MoveAnswer → Moved
+abbrev pub move_record : Result State Refused → Moved
 move_record a = record { refusal = move_number a; state = move_state a }
 
 -- what crosses of a move, with the other ring afterwards, whatever the cells are: the call is not lent them
@@ -61,7 +61,7 @@ MovesAcross s ring other r after =
     (cells : List ℕ) → (r ≡ move_record (move_answer s (move_of (world_of s ring cells) other))) × (after ≡ other_after other (move_of (world_of s ring cells) other))
 
 -- step
-abbrev pub step_record : StepAnswer → Stepped
+abbrev pub step_record : Result Finished Refused → Stepped
 step_record a = record { refusal = step_number a; evaluations = step_evaluations a; tape = step_verdicts a; state = step_state a }
 
 -- run: "done", "limit", "more", "stop" by their numbers, and 0 for none of them
@@ -71,11 +71,11 @@ ending_number E.Limit = 2
 ending_number E.More = 3
 ending_number (E.Stop why) = 4
 
-abbrev pub run_ending : RunAnswer → ℕ
-run_ending (N.Ended s steps evals bytes e) = ending_number e
-run_ending (N.Refused why s) = 0
+abbrev pub run_ending : Result Ended Refused → ℕ
+run_ending (Ok f) = ending_number f.ending
+run_ending (Err f) = 0
 
-abbrev pub run_record : RunAnswer → Ran
+abbrev pub run_record : Result Ended Refused → Ran
 run_record a = record {
   refusal = run_number a;
   ending = run_ending a;
@@ -87,7 +87,7 @@ run_record a = record {
 }
 
 -- counts
-abbrev pub counts_record : CountsAnswer → Counted
+abbrev pub counts_record : Result Tally Refusal → Counted
 counts_record a = record { refusal = counts_number a; counts = counts_values a }
 
 -- a coordinate with document 01's level
@@ -99,8 +99,16 @@ abbrev pub child_record : Block → Child
 child_record b = record { x = coordinate_record b.x; y = coordinate_record b.y; m = b.m; n = b.n; theta = b.theta; t = b.t }
 
 -- children
-abbrev pub children_record : ChildrenAnswer → Listed
-children_record l = record { refusal = children_number l; count = l.children.count; at = map child_record l.children.at }
+abbrev pub list_record : ℕ → Children → Listed
+list_record refusal k = record { refusal = refusal; count = k.count; at = map child_record k.at }
+
+-- where none are listed
+abbrev pub no_children : Children
+no_children = listed no_block []
+
+abbrev pub children_record : Result Children Refusal → Listed
+children_record (Ok k) = list_record 0 k
+children_record (Err why) = list_record (number why) no_children
 
 -- WITH A TABLE: document 02, (iv). Each by the record, ring, cells and table that the call is lent, and then its verdicts or its tape
 

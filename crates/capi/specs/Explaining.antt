@@ -1,6 +1,7 @@
 -- How an explanation crosses to other languages: as one record, which begins with the refusal, 0 where a reason is given. What does not apply is blank:
 -- 0, the blank block, and, where nothing was begun, the record of no picture.
-use Rattle.std.specs.Prelude.{ℕ}
+use Rattle.std.specs.Prelude.{ℕ, Result, Ok, Err}
+use Rattle.refusal.specs.declared.Refusal.{Refusal}
 use Rattle.refusal.specs.Number.{number}
 use Rattle.queue.specs.Answers.{blank_block}
 use Rattle.implicit.specs.declared.state.State.{State}
@@ -51,7 +52,7 @@ record_of refusal told ending steps evals bytes s = record {
 }
 
 -- THE EXPLANATION as it crosses: with a reason; where a step refused; where nothing was begun
-abbrev pub explained_record : Explanation → Explained
-explained_record (X.Of reason s steps evals bytes e) = record_of 0 (told_of reason) (ending_number e) steps evals bytes s
-explained_record (X.Stopped why s steps evals bytes) = record_of (number why) nothing_told (ending_number (E.Stop why)) steps evals bytes s
-explained_record (X.Refused why) = record_of (number why) nothing_told 0 0 0 0 blank_state
+abbrev pub explained_record : Result Explanation Refusal → Explained
+explained_record (Ok (X.Of reason s steps evals bytes e)) = record_of 0 (told_of reason) (ending_number e) steps evals bytes s
+explained_record (Ok (X.Stopped why s steps evals bytes)) = record_of (number why) nothing_told (ending_number (E.Stop why)) steps evals bytes s
+explained_record (Err why) = record_of (number why) nothing_told 0 0 0 0 blank_state

@@ -10,10 +10,7 @@ ghost use Rattle.implicit.specs.View.{picture_answer, picture_left, if_done, cou
 ghost use Rattle.implicit.specs.Answers.{call_number};
 ghost use Rattle.capi.specs.Engine.{setup_record, children_record, step_record, run_record, counts_record, cells_record, needed_record, MovesAcross};
 
-use crate::engine_records::{
-    call_number, children_record, counts_record, move_record, needed_record, run_record,
-    setup_record, step_record,
-};
+use crate::engine_records::call_number;
 use crate::records::{Counted, Listed, Moved, Number, Ran, Started, Stepped};
 use decide::{Chosen, is_legal_side};
 use implicit::{Ranges, State};
@@ -47,7 +44,7 @@ pub(crate) fn are_legal_sides(width: u32, height: u32) -> bool
 pub extern "C" fn smyrilox_least_ring(chosen: Chosen, ranges: Ranges) -> Number
     ensures { result ≡ needed_record (least_ring chosen ranges) }
 {
-    needed_record(implicit::least_ring(chosen, ranges))
+    implicit::least_ring(chosen, ranges).into()
 }
 
 // A ring with which none of the first `steps` steps from the setup is refused by 6.
@@ -55,7 +52,7 @@ pub extern "C" fn smyrilox_least_ring(chosen: Chosen, ranges: Ranges) -> Number
 pub extern "C" fn smyrilox_enough_ring(chosen: Chosen, ranges: Ranges, steps: u32) -> Number
     ensures { result ≡ needed_record (enough_ring chosen ranges steps) }
 {
-    needed_record(implicit::enough_ring(chosen, ranges, steps))
+    implicit::enough_ring(chosen, ranges, steps).into()
 }
 
 // Begins a picture over a ring and cells.
@@ -70,7 +67,7 @@ pub extern "C" fn smyrilox_setup(
     ensures ring_after { ring.new ≡ ring_begun (cleared chosen) ranges ring.old cells.old }
     ensures cells_after { cells.new ≡ cells_begun (cleared chosen) ranges ring.old cells.old }
 {
-    setup_record(implicit::setup(chosen, ranges, ring, cells))
+    implicit::setup(chosen, ranges, ring, cells).into()
 }
 
 // The children of the front block.
@@ -78,7 +75,7 @@ pub extern "C" fn smyrilox_setup(
 pub extern "C" fn smyrilox_children(state: State, ring: &[u8]) -> Listed
     ensures { result ≡ children_record (children_listed state ring.now) }
 {
-    children_record(implicit::children(state, ring))
+    implicit::children(state, ring).into()
 }
 
 // One step, with a verdict for each child.
@@ -93,7 +90,7 @@ pub extern "C" fn smyrilox_step(
     ensures ring_after { ring.new ≡ (world_after (world_of state ring.old cells.old) (step_of (world_of state ring.old cells.old) verdicts.now)).ring }
     ensures cells_after { cells.new ≡ (world_after (world_of state ring.old cells.old) (step_of (world_of state ring.old cells.old) verdicts.now)).cells }
 {
-    step_record(implicit::step(state, ring, cells, verdicts))
+    implicit::step(state, ring, cells, verdicts).into()
 }
 
 // Steps on a tape of verdicts.
@@ -109,7 +106,7 @@ pub extern "C" fn smyrilox_run(
     ensures ring_after { ring.new ≡ (world_run (world_of state ring.old cells.old) (run_of budget (world_of state ring.old cells.old) tape.now)).ring }
     ensures cells_after { cells.new ≡ (world_run (world_of state ring.old cells.old) (run_of budget (world_of state ring.old cells.old) tape.now)).cells }
 {
-    run_record(implicit::run(state, ring, cells, tape, budget))
+    implicit::run(state, ring, cells, tape, budget).into()
 }
 
 // Moves the queue to another ring.
@@ -117,7 +114,7 @@ pub extern "C" fn smyrilox_run(
 pub extern "C" fn smyrilox_move_queue(state: State, ring: &[u8], other: &mut [u8]) -> Moved
     ensures { MovesAcross state ring.now other.old result other.new }
 {
-    move_record(implicit::move_queue(state, ring, other))
+    implicit::move_queue(state, ring, other).into()
 }
 
 // The picture's bytes; the answer is the refusal, or 0.
@@ -134,5 +131,5 @@ pub extern "C" fn smyrilox_picture(state: State, cells: &[u64], picture: &mut [u
 pub extern "C" fn smyrilox_counts(state: State, cells: &[u64]) -> Counted
     ensures { result ≡ counts_record (counts_answer state cells.now) }
 {
-    counts_record(implicit::counts(state, cells))
+    implicit::counts(state, cells).into()
 }

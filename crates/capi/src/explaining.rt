@@ -4,11 +4,11 @@ ghost use Rattle.implicit.specs.Setup.{cleared};
 ghost use Rattle.explain.specs.Explained.{explained, ring_explained, cells_explained};
 ghost use Rattle.capi.specs.Explaining.{told_at, told_of, nothing_told, record_of, explained_record};
 
-use crate::engine_records::{blank_state, child_record, ending_number, refusal_number};
+use crate::engine_records::{blank_state, ending_number, refusal_number};
 use crate::records::Explained;
 use decide::Chosen;
 use explain::{Explanation, Moment, Reason};
-use implicit::{Ending, Ranges, State};
+use implicit::{Ranges, State};
 use queue::Block;
 use refusal::Refusal;
 
@@ -43,65 +43,50 @@ pub extern "C" fn smyrilox_explain(
     ensures cells_after { cells.new ≡ cells_explained (cleared chosen) ranges ring.old cells.old tape.now
         steps column row }
 {
-    explained_record(explain::explain(chosen, ranges, ring, cells, tape, steps, column, row))
+    explain::explain(chosen, ranges, ring, cells, tape, steps, column, row).into()
 }
 
-fn explained_record(a: Explanation) -> Explained
-    ensures { result ≡ explained_record a }
-{
-    match a {
-        Explanation::Of {
-            reason,
-            state,
-            steps,
-            evaluations,
-            tape,
-            ending,
-        } => reason_record(reason, state, steps, evaluations, tape, ending),
-        Explanation::Stopped {
-            why,
-            state,
-            steps,
-            evaluations,
-            tape,
-        } => stopped_record(why, state, steps, evaluations, tape),
-        Explanation::Refused(why) => refused_record(why),
+impl From<Result<Explanation, Refusal>> for Explained {
+    ghost from_gives = { λ a r. r ≡ explained_record a };
+
+    fn from(a: Result<Explanation, Refusal>) -> Explained {
+        match a {
+            Ok(
+                Explanation::Of {
+                    reason,
+                    state,
+                    steps,
+                    evaluations,
+                    tape,
+                    ending,
+                },
+            ) => {
+                let end = ending_number(ending);
+                record_of(0, Told::from(reason), end, steps, evaluations, tape, state)
+            }
+            Ok(
+                Explanation::Stopped {
+                    why,
+                    state,
+                    steps,
+                    evaluations,
+                    tape,
+                },
+            ) => {
+                let refusal = refusal_number(why);
+                record_of(refusal, nothing_told(), 4, steps, evaluations, tape, state)
+            }
+            Err(why) => record_of(
+                refusal_number(why),
+                nothing_told(),
+                0,
+                0,
+                0,
+                0,
+                blank_state(),
+            ),
+        }
     }
-}
-
-fn reason_record(
-    reason: Reason,
-    state: State,
-    steps: u64,
-    evaluations: u64,
-    tape: usize,
-    ending: Ending,
-) -> Explained
-    ensures { result ≡ explained_record (Explanation.Of reason state steps evaluations tape ending) }
-{
-    let told = tell(reason);
-    let end = ending_number(ending);
-    record_of(0, told, end, steps, evaluations, tape, state)
-}
-
-fn stopped_record(
-    why: Refusal,
-    state: State,
-    steps: u64,
-    evaluations: u64,
-    tape: usize,
-) -> Explained
-    ensures { result ≡ explained_record (Explanation.Stopped why state steps evaluations tape) }
-{
-    let refusal = refusal_number(why);
-    record_of(refusal, tell_nothing(), 4, steps, evaluations, tape, state)
-}
-
-fn refused_record(why: Refusal) -> Explained
-    ensures { result ≡ explained_record (Explanation.Refused why) }
-{
-    let refusal = refusal_number(why);
-    record_of(refusal, tell_nothing(), 0, 0, 0, 0, blank_state())
 }
 
 // All of them in their places.
@@ -116,7 +101,6 @@ fn record_of(
 ) -> Explained
     ensures { result ≡ record_of refusal told ending steps evaluations tape state }
 {
-    let block = told.block;
     Explained {
         refusal,
         reason: told.reason,
@@ -125,8 +109,8 @@ fn record_of(
         point: told.point,
         number: told.number,
         before: told.before,
-        block: child_record(block),
-        direction: block.dir as u64,
+        block: told.block.into(),
+        direction: told.block.dir as u64,
         ending,
         steps,
         evaluations,
@@ -135,31 +119,31 @@ fn record_of(
     }
 }
 
-fn tell(reason: Reason) -> Told
-    ensures { result ≡ told_of reason }
-{
-    match reason {
-        Reason::True { at, point } => tell_moment(1, at, point),
-        Reason::False { at } => tell_moment(2, at, 0),
-        Reason::GivenUp { at } => tell_moment(3, at, 0),
-        Reason::Waiting {
-            number,
-            before,
-            block,
-        } => Told {
-            reason: 4,
-            step: 0,
-            child: 0,
-            point: 0,
-            number,
-            before,
-            block,
-        },
+impl From<Reason> for Told {
+    ghost from_gives = { λ reason told. told ≡ told_of reason };
+
+    fn from(reason: Reason) -> Told {
+        match reason {
+            Reason::True { at, point } => told_at(1, at, point),
+            Reason::False { at } => told_at(2, at, 0),
+            Reason::GivenUp { at } => told_at(3, at, 0),
+            Reason::Waiting {
+                number,
+                before,
+                block,
+            } => Told {
+                reason: 4,
+                number,
+                before,
+                block,
+                ..nothing_told()
+            },
+        }
     }
 }
 
 // A reason that is a moment of the run.
-fn tell_moment(reason: u64, at: Moment, point: u8) -> Told
+fn told_at(reason: u64, at: Moment, point: u8) -> Told
     ensures { result ≡ told_at reason at point }
 {
     Told {
@@ -167,13 +151,11 @@ fn tell_moment(reason: u64, at: Moment, point: u8) -> Told
         step: at.step,
         child: at.child as u64,
         point: point as u64,
-        number: 0,
-        before: 0,
-        block: explain::blank_block(),
+        ..nothing_told()
     }
 }
 
-fn tell_nothing() -> Told
+fn nothing_told() -> Told
     ensures { result ≡ nothing_told }
 {
     Told {

@@ -10,10 +10,6 @@ ghost use Rattle.interval.specs.Kinds.{midpoint_of, cut_point_of};
 ghost use Rattle.small.specs.Small.{code_of, read_small};
 ghost use Rattle.capi.specs.Leaf.{coordinate_from, point_record, whether_record, pieces_record, code_record, read_record, pixel_record, halves_record};
 
-use crate::leaf_records::{
-    code_record, coordinate_from, halves_record, pieces_record, pixel_record, point_record,
-    read_record, whether_record,
-};
 use crate::records::{Code, Coordinate, Halved, Number, Pieces, Point, Read};
 use interval::Interval;
 
@@ -22,7 +18,7 @@ use interval::Interval;
 pub extern "C" fn smyrilox_midpoint(x: Interval) -> Point
     ensures { result ≡ point_record (point_answer (legal_interval x false) (midpoint_of (put_interval x))) }
 {
-    point_record(interval::midpoint(x))
+    interval::midpoint(x).into()
 }
 
 // A number between the bounds with few digits: the first sample point.
@@ -30,7 +26,7 @@ pub extern "C" fn smyrilox_midpoint(x: Interval) -> Point
 pub extern "C" fn smyrilox_simple_fraction(x: Interval) -> Point
     ensures { result ≡ point_record (point_answer (legal_interval x false) (simple_fraction (put_interval x).lower (put_interval x).upper)) }
 {
-    point_record(interval::simple_fraction(x))
+    interval::simple_fraction(x).into()
 }
 
 // The point at which the later cut divides a parameter.
@@ -38,7 +34,7 @@ pub extern "C" fn smyrilox_simple_fraction(x: Interval) -> Point
 pub extern "C" fn smyrilox_subdivision_point(x: Interval, integer: bool) -> Point
     ensures { result ≡ point_record (point_answer (legal_interval x integer) (cut_point_of (put_interval x) integer)) }
 {
-    point_record(interval::subdivision_point(x, integer))
+    interval::subdivision_point(x, integer).into()
 }
 
 // Whether a parameter is subdivisible.
@@ -46,7 +42,7 @@ pub extern "C" fn smyrilox_subdivision_point(x: Interval, integer: bool) -> Poin
 pub extern "C" fn smyrilox_is_subdivisible(x: Interval, integer: bool) -> Number
     ensures { result ≡ whether_record (whether_at (legal_interval x integer) (subdivisible (put_interval x) integer)) }
 {
-    whether_record(interval::is_subdivisible(x, integer))
+    interval::is_subdivisible(x, integer).into()
 }
 
 // The pieces of a parameter's first cut.
@@ -54,7 +50,7 @@ pub extern "C" fn smyrilox_is_subdivisible(x: Interval, integer: bool) -> Number
 pub extern "C" fn smyrilox_first_cut(x: Interval, integer: bool) -> Pieces
     ensures { result ≡ pieces_record (pieces_at (legal_interval x integer) (first_cut (put_interval x) integer)) }
 {
-    pieces_record(interval::first_cut(x, integer))
+    interval::first_cut(x, integer).into()
 }
 
 // The pieces of a parameter's later cut.
@@ -62,7 +58,7 @@ pub extern "C" fn smyrilox_first_cut(x: Interval, integer: bool) -> Pieces
 pub extern "C" fn smyrilox_later_cut(x: Interval, integer: bool) -> Pieces
     ensures { result ≡ pieces_record (pieces_at (legal_interval x integer) (later_cut (put_interval x) integer)) }
 {
-    pieces_record(interval::later_cut(x, integer))
+    interval::later_cut(x, integer).into()
 }
 
 // The code of a small number.
@@ -70,7 +66,7 @@ pub extern "C" fn smyrilox_later_cut(x: Interval, integer: bool) -> Pieces
 pub extern "C" fn smyrilox_write_small(x: u64) -> Code
     ensures { result ≡ code_record (code_of x) }
 {
-    code_record(small::write_small(x))
+    small::write_small(x).into()
 }
 
 // The small number at the front of some bytes.
@@ -78,7 +74,7 @@ pub extern "C" fn smyrilox_write_small(x: u64) -> Code
 pub extern "C" fn smyrilox_read_small(bytes: &[u8]) -> Read
     ensures { result ≡ read_record (read_small bytes.now) }
 {
-    read_record(small::read_small(bytes))
+    small::read_small(bytes).into()
 }
 
 // The pixel that a coordinate begins in.
@@ -86,7 +82,7 @@ pub extern "C" fn smyrilox_read_small(bytes: &[u8]) -> Read
 pub extern "C" fn smyrilox_pixel_index(c: Coordinate) -> Number
     ensures { result ≡ pixel_record (pixel_asked ordinary_floor (coordinate_from c)) }
 {
-    pixel_record(coordinate::pixel_index(coordinate_from(c)))
+    coordinate::pixel_index(c.into()).into()
 }
 
 // The halves of a coordinate, one level down.
@@ -94,7 +90,7 @@ pub extern "C" fn smyrilox_pixel_index(c: Coordinate) -> Number
 pub extern "C" fn smyrilox_halves(c: Coordinate) -> Halved
     ensures { result ≡ halves_record (halves_asked ordinary_floor (coordinate_from c)) }
 {
-    halves_record(coordinate::subdivide(coordinate_from(c)))
+    coordinate::subdivide(c.into()).into()
 }
 
 // Whether a coordinate has a level below.
@@ -102,5 +98,5 @@ pub extern "C" fn smyrilox_halves(c: Coordinate) -> Halved
 pub extern "C" fn smyrilox_is_halvable(c: Coordinate) -> Number
     ensures { result ≡ whether_record (subdivisible_asked ordinary_floor (coordinate_from c)) }
 {
-    whether_record(coordinate::is_subdivisible(coordinate_from(c)))
+    coordinate::is_subdivisible(c.into()).into()
 }

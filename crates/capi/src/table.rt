@@ -8,7 +8,7 @@ ghost use Rattle.capi.specs.Engine.{tile_count_record, setup_with_table, ring_se
 ghost use Rattle.capi.specs.Engine.{step_with_table, world_stepped, table_stepped, run_with_table, world_taken, table_taken, table_left};
 
 use crate::engine::are_legal_sides;
-use crate::engine_records::{call_number, run_record, setup_record, step_record};
+use crate::engine_records::call_number;
 use crate::records::{Number, Ran, Started, Stepped};
 use decide::Chosen;
 use implicit::{Ranges, State};
@@ -44,7 +44,7 @@ pub extern "C" fn smyrilox_setup_with_table(
     ensures cells_after { cells.new ≡ cells_set_up (cleared chosen) ranges ring.old cells.old table.old }
     ensures table_after { table.new ≡ table_set_up (cleared chosen) ranges ring.old cells.old table.old }
 {
-    setup_record(implicit::setup_with_table(chosen, ranges, ring, cells, table))
+    implicit::setup_with_table(chosen, ranges, ring, cells, table).into()
 }
 
 // One step, with a verdict for each child, which brings the table up to date.
@@ -61,7 +61,7 @@ pub extern "C" fn smyrilox_step_with_table(
     ensures cells_after { cells.new ≡ (world_stepped state ring.old cells.old table.old verdicts.now).cells }
     ensures table_after { table.new ≡ table_stepped state ring.old cells.old table.old verdicts.now }
 {
-    step_record(implicit::step_with_table(state, ring, cells, table, verdicts))
+    implicit::step_with_table(state, ring, cells, table, verdicts).into()
 }
 
 // Steps on a tape of verdicts, each of which brings the table up to date.
@@ -79,7 +79,7 @@ pub extern "C" fn smyrilox_run_with_table(
     ensures cells_after { cells.new ≡ (world_taken budget state ring.old cells.old table.old tape.now).cells }
     ensures table_after { table.new ≡ table_taken budget state ring.old cells.old table.old tape.now }
 {
-    run_record(implicit::run_with_table(state, ring, cells, table, tape, budget))
+    implicit::run_with_table(state, ring, cells, table, tape, budget).into()
 }
 
 // Fills a table from a record and its cells; the answer is the refusal, or 0.

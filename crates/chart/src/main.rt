@@ -1,4 +1,5 @@
 // The program: a sheet on standard input, its chart on standard output. Document 01, "Program and values"; the work is done in `program`.
+// `why` has the same form: one call, with buffers of other sizes.
 #![tactic(auto)]
 
 use std::io;

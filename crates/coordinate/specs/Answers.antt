@@ -1,34 +1,23 @@
--- The answers that are enums: document 01's number of each case, 0 where the call was done and else that of its refusal, and its values.
--- A value that a refused call does not have is 0, or the coordinate of index and level 0. Yes or no: `whether_number` and `whether_value`.
-use Rattle.std.specs.Prelude.{ℕ}
-use Rattle.refusal.specs.Number.{number}
+-- Document 01's values of an answer: those that a refused call does not have are 0, or the coordinate of index and level 0. Its number is
+-- `answer_number`, and yes or no `whether_value`.
+use Rattle.std.specs.Prelude.{ℕ, Result, Ok, Err}
+use Rattle.refusal.specs.declared.Refusal.{Refusal}
 use Rattle.coordinate.specs.declared.Coordinate.{Coordinate}
-use Rattle.coordinate.specs.declared.PixelAnswer.{PixelAnswer}
-use Rattle.coordinate.specs.declared.PixelAnswer.TheVariants as P
-use Rattle.coordinate.specs.declared.HalvesAnswer.{HalvesAnswer}
-use Rattle.coordinate.specs.declared.HalvesAnswer.TheVariants as H
+use Rattle.coordinate.specs.declared.Halves.{Halves}
 
--- THE PIXEL: its number, and the pixel
-abbrev pub pixel_number : PixelAnswer → ℕ
-pixel_number (P.At p) = 0
-pixel_number (P.Refused why) = number why
+-- the pixel
+abbrev pub pixel_value : Result ℕ Refusal → ℕ
+pixel_value (Ok p) = p
+pixel_value (Err why) = 0
 
-abbrev pub pixel_value : PixelAnswer → ℕ
-pixel_value (P.At p) = p
-pixel_value (P.Refused why) = 0
-
--- THE HALVES: their number, and the two
+-- the two halves
 abbrev pub blank_coordinate : Coordinate
 blank_coordinate = record { index = 0; rank = 48 }
 
-abbrev pub halves_number : HalvesAnswer → ℕ
-halves_number (H.Halves low high) = 0
-halves_number (H.Refused why) = number why
+abbrev pub halves_low : Result Halves Refusal → Coordinate
+halves_low (Ok h) = h.low
+halves_low (Err why) = blank_coordinate
 
-abbrev pub halves_low : HalvesAnswer → Coordinate
-halves_low (H.Halves low high) = low
-halves_low (H.Refused why) = blank_coordinate
-
-abbrev pub halves_high : HalvesAnswer → Coordinate
-halves_high (H.Halves low high) = high
-halves_high (H.Refused why) = blank_coordinate
+abbrev pub halves_high : Result Halves Refusal → Coordinate
+halves_high (Ok h) = h.high
+halves_high (Err why) = blank_coordinate

@@ -1,15 +1,10 @@
 -- What is answered of a lone coordinate, over the floor: document 01, the second half of refusal 8. A coordinate outside the ranges is refused
 -- whatever is asked of it, and its halves are refused too where one of them would be outside.
-use Rattle.std.specs.Prelude.{Bool, cond, ◌&&◌, ℕ, ◌+◌, ◌-◌, ◌*◌}
+use Rattle.std.specs.Prelude.{Bool, cond, Result, Ok, Err, ◌&&◌, ℕ, ◌+◌, ◌-◌, ◌*◌}
+use Rattle.refusal.specs.declared.Refusal.{Refusal}
 use Rattle.refusal.specs.declared.Refusal.TheVariants as R
-use Rattle.refusal.specs.declared.Whether.{Whether}
-use Rattle.refusal.specs.declared.Whether.TheVariants as W
-use Rattle.refusal.specs.Number.{answered}
 use Rattle.coordinate.specs.declared.Coordinate.{Coordinate}
-use Rattle.coordinate.specs.declared.PixelAnswer.{PixelAnswer}
-use Rattle.coordinate.specs.declared.PixelAnswer.TheVariants as P
-use Rattle.coordinate.specs.declared.HalvesAnswer.{HalvesAnswer}
-use Rattle.coordinate.specs.declared.HalvesAnswer.TheVariants as H
+use Rattle.coordinate.specs.declared.Halves.{Halves}
 use Rattle.coordinate.specs.Axis.{ordinary_floor, in_range, pixel, above_floor, inside}
 
 -- index and level are in the ranges
@@ -25,24 +20,24 @@ abbrev pub high_half : Coordinate → Coordinate
 high_half c = record { index = 2 * c.index + 1; rank = c.rank - 1 }
 
 -- the pixel, or 8
-unfoldable pub pixel_asked : ℕ → Coordinate → PixelAnswer
-pixel_asked floor c = cond (legal floor c) (P.At (pixel c.rank c.index)) (P.Refused R.Damaged)
+unfoldable pub pixel_asked : ℕ → Coordinate → Result ℕ Refusal
+pixel_asked floor c = cond (legal floor c) (Ok (pixel c.rank c.index)) (Err R.Damaged)
 
 -- the halves, or 8 where the coordinate or a half of it is outside the ranges: a half is at the floor or above if its coordinate is above it,
 -- and the low one's index is less than the high one's
-unfoldable pub halves_asked : ℕ → Coordinate → HalvesAnswer
+unfoldable pub halves_asked : ℕ → Coordinate → Result Halves Refusal
 halves_asked floor c =
     cond (legal floor c && (above_floor floor c.rank && legal floor (high_half c)))
-    (H.Halves (low_half c) (high_half c))
-    (H.Refused R.Damaged)
+    (Ok (record { low = low_half c; high = high_half c }))
+    (Err R.Damaged)
 
 -- whether it is subdivisible, or 8
-unfoldable pub subdivisible_asked : ℕ → Coordinate → Whether
-subdivisible_asked floor c = cond (legal floor c) (answered (above_floor floor c.rank)) (W.Refused R.Damaged)
+unfoldable pub subdivisible_asked : ℕ → Coordinate → Result Bool Refusal
+subdivisible_asked floor c = cond (legal floor c) (Ok (above_floor floor c.rank)) (Err R.Damaged)
 
 -- whether it begins inside a side, or 8
-unfoldable pub inside_asked : ℕ → Coordinate → ℕ → Whether
-inside_asked floor c side = cond (legal floor c) (answered (inside side c.rank c.index)) (W.Refused R.Damaged)
+unfoldable pub inside_asked : ℕ → Coordinate → ℕ → Result Bool Refusal
+inside_asked floor c side = cond (legal floor c) (Ok (inside side c.rank c.index)) (Err R.Damaged)
 
 -- it is in the ranges for index and level, and begins inside its side: what a block's coordinates are asked
 abbrev pub place_right : ℕ → Coordinate → Bool

@@ -1,4 +1,5 @@
 -- Laws of child j: it is the listing's child j, and lies where the place of child j says. Assumes nothing.
+use Rattle.std.specs.Prelude.{Option, Some, None}
 use mathlib.Core.Path.{◌≡◌, refl, sym, ap, subst, ◌∙◌}
 use mathlib.Core.Bool.{Bool, true, false, cond, ◌&&◌}
 use mathlib.Core.List.{List, [], ◌∷◌, ◌++◌, map}
@@ -17,8 +18,6 @@ use Rattle.interval.specs.Cuts.{later_cut}
 use Rattle.queue.specs.declared.Block.{Block}
 use Rattle.queue.specs.declared.directions.Direction.{Direction}
 use Rattle.queue.specs.declared.directions.Direction.TheVariants as D
-use Rattle.queue.specs.declared.directions.DirectionAt.{DirectionAt}
-use Rattle.queue.specs.declared.directions.DirectionAt.TheVariants as A
 use Rattle.queue.specs.Block.{is_integer, parameter_of, with_parameter}
 use Rattle.decide.specs.declared.Chosen.{Chosen}
 use Rattle.decide.specs.declared.children.Cut.{Cut}
@@ -85,7 +84,7 @@ module _ (b d : Block) (hx : Halved b.x) (hy : Halved b.y) where
   same = moved_same b
 
   quarter_at : (right above : Bool) (j : ℕ) → j < length (quarters_by b right above)
-      → child_along (A.Along D.XY) right b j ≡ get_or (quarters_by b right above) j d
+      → child_along (Some D.XY) right b j ≡ get_or (quarters_by b right above) j d
   quarter_at true true zero h = same _ _ _ _ hx.low hy.low
   quarter_at true true (suc zero) h = same _ _ _ _ hx.high hy.low
   quarter_at true true (suc (suc zero)) h = same _ _ _ _ hx.low hy.high
@@ -157,20 +156,20 @@ piece_at b d e j legal_here h =
 -- CHILD J
 
 module _ (p : Chosen) (b : Block) (ok : sound p b ≡ true) where
-  child_along_lem : (a : DirectionAt) → a ≡ direction_of p b → (j : ℕ) (d : Block) → j < length (children_along p b a)
+  child_along_lem : (a : Option Direction) → a ≡ direction_of p b → (j : ℕ) (d : Block) → j < length (children_along p b a)
       → child_along a (right_listed p b a) b j ≡ get_or (children_along p b a) j d
-  child_along_lem (A.Along D.XY) e j d h =
+  child_along_lem (Some D.XY) e j d h =
       let up = cut_along p b D.XY ok (sym e) refl in
       let k = kept_quarters p b ok up in
       let i : j < length (quarters_by b (right_kept p b ok up) (above_kept p b ok up)) = subst (λ (l : List Block). j < length l) (sym k) h in
       quarter_at b d (x_halved p b ok up) (y_halved p b ok up) (right_kept p b ok up) (above_kept p b ok up) j i
       ∙ ap (λ (l : List Block). get_or l j d) k
-  child_along_lem (A.Along D.M) e j d h = piece_at b d D.M j (is_sound p b ok).block.parameters.m h
-  child_along_lem (A.Along D.N) e j d h = piece_at b d D.N j (is_sound p b ok).block.parameters.n h
-  child_along_lem (A.Along D.Theta) e j d h = piece_at b d D.Theta j (is_sound p b ok).block.parameters.theta h
-  child_along_lem (A.Along D.T) e j d h = piece_at b d D.T j (is_sound p b ok).block.parameters.t h
-  child_along_lem A.Beyond e zero d h = refl
-  child_along_lem A.Beyond e (suc j) d h = absurd (omega arith)
+  child_along_lem (Some D.M) e j d h = piece_at b d D.M j (is_sound p b ok).block.parameters.m h
+  child_along_lem (Some D.N) e j d h = piece_at b d D.N j (is_sound p b ok).block.parameters.n h
+  child_along_lem (Some D.Theta) e j d h = piece_at b d D.Theta j (is_sound p b ok).block.parameters.theta h
+  child_along_lem (Some D.T) e j d h = piece_at b d D.T j (is_sound p b ok).block.parameters.t h
+  child_along_lem None e zero d h = refl
+  child_along_lem None e (suc j) d h = absurd (omega arith)
 
   along_sound : children_of p b ≡ children_along p b (direction_of p b)
   unfolding children_of
@@ -194,11 +193,11 @@ pub child_place : (k : Cut) (b : Block) (j : ℕ)
 unfolding child_of
 child_place k b j = go k.along k.right
   where
-    go : (a : DirectionAt) (right : Bool)
+    go : (a : Option Direction) (right : Bool)
         → ((child_along a right b j).x ≡ (place_along a right b.x b.y j).x) × ((child_along a right b j).y ≡ (place_along a right b.x b.y j).y)
-    go (A.Along D.XY) right = (refl, refl)
-    go (A.Along D.M) right = (refl, refl)
-    go (A.Along D.N) right = (refl, refl)
-    go (A.Along D.Theta) right = (refl, refl)
-    go (A.Along D.T) right = (refl, refl)
-    go A.Beyond right = (refl, refl)
+    go (Some D.XY) right = (refl, refl)
+    go (Some D.M) right = (refl, refl)
+    go (Some D.N) right = (refl, refl)
+    go (Some D.Theta) right = (refl, refl)
+    go (Some D.T) right = (refl, refl)
+    go None right = (refl, refl)

@@ -1,68 +1,21 @@
 -- Laws of legal pictures and undamaged blocks. Assumes nothing.
 use mathlib.Core.Path.{◌≡◌, refl, sym, ap, ◌∙◌}
 use mathlib.Core.Bool.{Bool, true, false, ◌&&◌, not, ◌||◌, false≢true}
-use mathlib.Core.List.{List}
 use Prim.Native.Nat.{ℕ, ◌≤◌}
 use lib.Dec.{leb, eqb}
-use lib.ListN.{length}
 use borrow.Author.Tests.{leb-true, eqb-true, eq-eqb}
 use Rattle.base.proofs.Test.{and_left, and_right, and_both}
-use Rattle.refusal.specs.declared.Whether.{Whether}
-use Rattle.refusal.specs.declared.Whether.TheVariants as W
 use Rattle.coordinate.specs.declared.Coordinate.{Coordinate}
 use Rattle.coordinate.specs.Axis.{ordinary_floor, inside}
 use Rattle.coordinate.specs.Lone.{legal}
 use Rattle.interval.specs.Bounds.{legal_interval, whole_bound, legal_bounds, same_interval}
-use Rattle.image.specs.declared.PixelRange.{PixelRange}
-use Rattle.image.specs.declared.Seen.{Seen}
-use Rattle.image.specs.Range.{rectangle_of}
-use Rattle.image.specs.Painting.{some_seen}
 use lib.Ieee.{Float, nan, inf, fin, eq, le, lt}
 use Rattle.interval.specs.declared.Interval.{Interval}
 use Rattle.queue.specs.Block.{whole_line}
-use Rattle.image.specs.declared.CellKind.TheVariants as K
 use Rattle.queue.specs.declared.Block.{Block}
-use Rattle.queue.specs.declared.directions.DirectionAt.{DirectionAt}
-use Rattle.queue.specs.declared.directions.DirectionAt.TheVariants as A
-use Rattle.queue.specs.declared.directions.Direction.{Direction}
-use Rattle.queue.specs.Directions.{directions}
 use Rattle.decide.specs.declared.Chosen.{Chosen}
-use Rattle.decide.specs.Damage.{legal_side, legal_chosen, direction_of, place_right, cuttable, direction_right, parameters_right}
-use Rattle.decide.specs.Damage.{undamaged, damage_seen, sound}
-
--- BY THE TESTS THAT THE CODE MAKES
-
-pub legal_chosen_as : (p : Chosen) (w h : Bool)
-    → w ≡ legal_side p.width → h ≡ legal_side p.height → (w && h && leb p.set 63) ≡ legal_chosen p
-unfolding legal_chosen
-legal_chosen_as p w h e f = rw (e, f)
-
-pub undamaged_as : (p : Chosen) (b : Block) (x y d t : Bool)
-    → x ≡ place_right p.width b.x → y ≡ place_right p.height b.y
-    → d ≡ direction_right p b (direction_of p b) → t ≡ parameters_right b
-    → (eqb b.x.rank b.y.rank && x && y && d && t) ≡ undamaged p b
-unfolding undamaged
-undamaged_as p b x y d t e f g h = rw (e, f, g, h)
-
-pub damage_as : (p : Chosen) (b : Block) (cells : List ℕ) (r : PixelRange) (s : Seen)
-    → r ≡ rectangle_of b.x b.y p.width p.height
-    → s ≡ some_seen p.width p.height r K.Damaged cells → s ≡ damage_seen p b cells
-damage_as p b cells r s e f = f ∙ rw e
-
--- a coordinate's answer, as yes or no
-abbrev pub is_yes : Whether → Bool
-is_yes W.Yes = true
-is_yes W.No = false
-is_yes (W.Refused r) = false
-
-pub directed_along : (p : Chosen) (b : Block) (a : DirectionAt) (d : Direction) (r : Bool)
-    → a ≡ direction_of p b → a ≡ A.Along d → r ≡ cuttable b d → r ≡ direction_right p b (direction_of p b)
-directed_along p b a d r e f g = g ∙ ap (direction_right p b) (sym f ∙ e)
-
-pub directed_beyond : (p : Chosen) (b : Block) (a : DirectionAt) (n : ℕ)
-    → a ≡ direction_of p b → a ≡ A.Beyond → n ≡ length (directions p.set)
-    → (eqb n 0 && eqb b.dir 0) ≡ direction_right p b (direction_of p b)
-directed_beyond p b a n e f g = rw g (ap (direction_right p b) (sym f ∙ e))
+use Rattle.decide.specs.Damage.{legal_side, legal_chosen, direction_of, place_right, direction_right, parameters_right}
+use Rattle.decide.specs.Damage.{undamaged, sound}
 
 -- WHAT THE TESTS SAY
 

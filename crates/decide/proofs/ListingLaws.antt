@@ -1,10 +1,11 @@
 -- Laws of the list of children: the halves and the pieces that it is made of, and how many there are. Assumes nothing.
+use Rattle.std.specs.Prelude.{Option, Some, None}
 use mathlib.Core.Path.{◌≡◌, sym, ap, ◌∙◌}
-use mathlib.Core.Bool.{Bool, true, false, ◌||◌}
+use mathlib.Core.Bool.{Bool, true, false}
 use mathlib.Core.List.{List, [], ◌∷◌}
 use Prim.Native.Nat.{ℕ, suc, ◌-◌, ◌≤◌}
 use native.Mathlib.Omega.{arith}
-use lib.Dec.{leb, ltb}
+use lib.Dec.{ltb}
 use lib.ListN.{length, length-append}
 use lib.ListN as L
 use borrow.Author.Tests.{ltb-true}
@@ -21,20 +22,13 @@ use Rattle.interval.proofs.LaterCut.{later_integer, later_real}
 use Rattle.queue.specs.declared.Block.{Block}
 use Rattle.queue.specs.declared.directions.Direction.{Direction}
 use Rattle.queue.specs.declared.directions.Direction.TheVariants as D
-use Rattle.queue.specs.declared.directions.DirectionAt.{DirectionAt}
-use Rattle.queue.specs.declared.directions.DirectionAt.TheVariants as A
 use Rattle.queue.specs.Block.{is_integer, parameter_of, with_parameter}
 use Rattle.decide.specs.declared.Chosen.{Chosen}
-use Rattle.decide.specs.Damage.{sound, direction_of, direction_right, place_right}
+use Rattle.decide.specs.Damage.{sound, direction_of, direction_right}
 use Rattle.decide.specs.Children.{quarters_of, begins_inside, kept_inside, children_xy, children_cut, children_along, children_of}
-use Rattle.decide.specs.ChildAt.{is_kept}
 use Rattle.decide.proofs.DamageLaws.{Placed, is_sound}
 
 -- THE QUARTERS
-
-pub kept_as : (rank : ℕ) (c : Coordinate) (side : ℕ) (t : Bool)
-    → legal ordinary_floor c ≡ true → t ≡ place_right side c → (leb rank 48 || t) ≡ is_kept rank c side
-kept_as rank c side t l e = rw (e, l)
 
 -- the halves of a coordinate inside, above the floor, are in the ranges
 pub half_legal : (side : ℕ) (c : Coordinate) → side ≤ 32768 → Placed side c → above_floor ordinary_floor c.rank ≡ true
@@ -71,11 +65,11 @@ later_cut_count x false = rw (later_real x) (omega arith)
 
 -- ALONG A DIRECTION
 
-pub cut_along : (p : Chosen) (b : Block) (d : Direction) → sound p b ≡ true → direction_of p b ≡ A.Along d → d ≡ D.XY
+pub cut_along : (p : Chosen) (b : Block) (d : Direction) → sound p b ≡ true → direction_of p b ≡ Some d → d ≡ D.XY
     → above_floor ordinary_floor b.x.rank ≡ true
 cut_along p b d ok e f =
     let s = (is_sound p b ok).block.directed in
-    let g : direction_of p b ≡ A.Along D.XY = e ∙ ap A.Along f in
+    let g : direction_of p b ≡ Some D.XY = e ∙ ap Some f in
     sym (ap (direction_right p b) g) ∙ s
 
 -- HOW MANY THERE ARE
@@ -99,13 +93,13 @@ xy_few p b =
     by_test (λ l. length l ≤ 4) (ltb 48 b.x.rank) (kept_inside p (quarters_of b)) (quarters_of b)
     (λ e. omega (arith, kept_few p (quarters_of b))) (λ e. omega arith)
 
-along_few : (p : Chosen) (b : Block) (a : DirectionAt) → length (children_along p b a) ≤ 4
-along_few p b (A.Along D.XY) = xy_few p b
-along_few p b (A.Along D.M) = omega (arith, cut_count b D.M)
-along_few p b (A.Along D.N) = omega (arith, cut_count b D.N)
-along_few p b (A.Along D.Theta) = omega (arith, cut_count b D.Theta)
-along_few p b (A.Along D.T) = omega (arith, cut_count b D.T)
-along_few p b A.Beyond = omega arith
+along_few : (p : Chosen) (b : Block) (a : Option Direction) → length (children_along p b a) ≤ 4
+along_few p b (Some D.XY) = xy_few p b
+along_few p b (Some D.M) = omega (arith, cut_count b D.M)
+along_few p b (Some D.N) = omega (arith, cut_count b D.N)
+along_few p b (Some D.Theta) = omega (arith, cut_count b D.Theta)
+along_few p b (Some D.T) = omega (arith, cut_count b D.T)
+along_few p b None = omega arith
 
 -- four at most
 pub children_few : (p : Chosen) (b : Block) → length (children_of p b) ≤ 4

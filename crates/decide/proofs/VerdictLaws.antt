@@ -1,6 +1,6 @@
 -- Laws of verdict bytes. Assumes nothing.
 use mathlib.Core.Path.{◌≡◌, sym, ap, ap₂, ◌∙◌}
-use mathlib.Core.Bool.{Bool, true, false, cond, ◌&&◌, ◌||◌}
+use mathlib.Core.Bool.{Bool, true, false, ◌&&◌, ◌||◌}
 use Prim.Native.Nat.{ℕ, suc, ◌+◌, ◌-◌, ◌*◌, ◌/◌, ◌%◌, ◌^◌, ◌≤◌, ◌<◌}
 use native.Mathlib.Omega.{arith}
 use native.Mathlib.Nat.{mod-lt, pow-suc}
@@ -10,7 +10,6 @@ use lib.Dec.{leb, ltb, eqb, lit<}
 use borrow.Author.Tests.{le-leb, lt-leb, eq-eqb, ne_eqb, eqb-false}
 use lib.Pow.{pow_pos, pow_mono}
 use Rattle.base.proofs.Test.{by_test}
-use Rattle.decide.specs.declared.verdict.Outcome.{Outcome}
 use Rattle.decide.specs.declared.verdict.Outcome.TheVariants as O
 use Rattle.decide.specs.Verdict.{legal_verdict, first_point, undecided_outcome, verdict_outcome, outcome_of, cost_of, area_of}
 
@@ -48,28 +47,7 @@ pub legal_below : (rank v : ℕ) → rank < 48
 unfolding legal_verdict
 legal_below rank v h = rw (lt-leb 48 rank h)
 
--- WHAT BECOMES OF A CHILD, by the tests in turn
-
-pub verdict_false : (rank v : ℕ) → v / 64 ≡ 0 → O.False ≡ verdict_outcome rank v
-unfolding verdict_outcome
-verdict_false rank v e = rw (eq-eqb (v / 64) 0 e)
-
-pub verdict_undecided : (rank v : ℕ) (o : Outcome) → v / 64 ≡ 1 → o ≡ undecided_outcome v → o ≡ verdict_outcome rank v
-unfolding verdict_outcome
-verdict_undecided rank v o e f = rw (ne_eqb (v / 64) 0 (λ z. omega arith), eq-eqb (v / 64) 1 e) f
-
-pub verdict_true : (rank v : ℕ) (b : Bool) → (v / 64 ≡ 0 → ⊥) → (v / 64 ≡ 1 → ⊥)
-    → (leb 48 rank || eqb (v / 32 % 2) 1) ≡ b → cond b O.Area (O.Incomplete 0) ≡ verdict_outcome rank v
-unfolding verdict_outcome
-verdict_true rank v b e f g = rw (ne_eqb (v / 64) 0 e, ne_eqb (v / 64) 1 f, g)
-
-pub undecided_unsampled : (v : ℕ) → v / 32 % 2 ≡ 0 → O.Incomplete 0 ≡ undecided_outcome v
-unfolding undecided_outcome
-undecided_unsampled v e = rw (ne_eqb (v / 32 % 2) 1 (λ z. omega arith))
-
-pub undecided_unfound : (v : ℕ) → (v / 32 % 2 ≡ 0 → ⊥) → v % 32 ≡ 0 → O.Incomplete 5 ≡ undecided_outcome v
-unfolding undecided_outcome
-undecided_unfound v e f = rw (eq-eqb (v / 32 % 2) 1 (omega arith), eq-eqb (v % 32) 0 f)
+-- WHAT BECOMES OF A CHILD
 
 pub undecided_found : (v n : ℕ) → (v / 32 % 2 ≡ 0 → ⊥) → (v % 32 ≡ 0 → ⊥) → n ≡ first_point v → O.Point n ≡ undecided_outcome v
 unfolding undecided_outcome

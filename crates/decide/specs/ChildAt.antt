@@ -1,5 +1,5 @@
 -- Child j of a block along its direction, and how many children there are: what the listing and the step both go by.
-use Rattle.std.specs.Prelude.{Bool, true, false, cond, ◌&&◌, ◌||◌, ℕ, ◌%◌, ◌^◌, leb, ltb, eqb, length, get_or}
+use Rattle.std.specs.Prelude.{Bool, true, false, cond, ◌&&◌, ◌||◌, ℕ, ◌%◌, ◌^◌, leb, ltb, eqb, length, get_or, Option, Some, None}
 use Rattle.coordinate.specs.declared.Coordinate.{Coordinate}
 use Rattle.coordinate.specs.Axis.{inside}
 use Rattle.coordinate.specs.Lone.{low_half, high_half}
@@ -8,8 +8,7 @@ use Rattle.interval.specs.Bounds.{legal_interval, put_interval}
 use Rattle.interval.specs.Cuts.{later_cut}
 use Rattle.queue.specs.declared.Block.{Block}
 use Rattle.queue.specs.declared.directions.Direction.TheVariants as D
-use Rattle.queue.specs.declared.directions.DirectionAt.{DirectionAt}
-use Rattle.queue.specs.declared.directions.DirectionAt.TheVariants as A
+use Rattle.queue.specs.declared.directions.Direction.{Direction}
 use Rattle.queue.specs.Block.{with_parameter}
 use Rattle.decide.specs.declared.Chosen.{Chosen}
 use Rattle.decide.specs.declared.children.Cut.{Cut}
@@ -28,13 +27,13 @@ quarter_of right x y j = cond right
     (record { x = half_of x false; y = half_of y (leb 1 j) })
 
 -- where child j lies: in a quarter, or in the block's own place
-abbrev pub place_along : DirectionAt → Bool → Coordinate → Coordinate → ℕ → Place
-place_along (A.Along D.XY) right x y j = quarter_of right x y j
-place_along (A.Along D.M) right x y j = record { x = x; y = y }
-place_along (A.Along D.N) right x y j = record { x = x; y = y }
-place_along (A.Along D.Theta) right x y j = record { x = x; y = y }
-place_along (A.Along D.T) right x y j = record { x = x; y = y }
-place_along A.Beyond right x y j = record { x = x; y = y }
+abbrev pub place_along : Option Direction → Bool → Coordinate → Coordinate → ℕ → Place
+place_along (Some D.XY) right x y j = quarter_of right x y j
+place_along (Some D.M) right x y j = record { x = x; y = y }
+place_along (Some D.N) right x y j = record { x = x; y = y }
+place_along (Some D.Theta) right x y j = record { x = x; y = y }
+place_along (Some D.T) right x y j = record { x = x; y = y }
+place_along None right x y j = record { x = x; y = y }
 
 abbrev pub place_of : Cut → Coordinate → Coordinate → ℕ → Place
 place_of k x y j = place_along k.along k.right x y j
@@ -44,13 +43,13 @@ unfoldable pub piece_of : Interval → Bool → ℕ → Interval
 piece_of x integer j = cond (legal_interval x integer) (get_or (later_cut (put_interval x) integer) j x) x
 
 -- child j of a block along a direction
-abbrev pub child_along : DirectionAt → Bool → Block → ℕ → Block
-child_along (A.Along D.XY) right b j = moved_to b (quarter_of right b.x b.y j).x (quarter_of right b.x b.y j).y
-child_along (A.Along D.M) right b j = with_parameter b D.M (piece_of b.m true j)
-child_along (A.Along D.N) right b j = with_parameter b D.N (piece_of b.n true j)
-child_along (A.Along D.Theta) right b j = with_parameter b D.Theta (piece_of b.theta true j)
-child_along (A.Along D.T) right b j = with_parameter b D.T (piece_of b.t false j)
-child_along A.Beyond right b j = b
+abbrev pub child_along : Option Direction → Bool → Block → ℕ → Block
+child_along (Some D.XY) right b j = moved_to b (quarter_of right b.x b.y j).x (quarter_of right b.x b.y j).y
+child_along (Some D.M) right b j = with_parameter b D.M (piece_of b.m true j)
+child_along (Some D.N) right b j = with_parameter b D.N (piece_of b.n true j)
+child_along (Some D.Theta) right b j = with_parameter b D.Theta (piece_of b.theta true j)
+child_along (Some D.T) right b j = with_parameter b D.T (piece_of b.t false j)
+child_along None right b j = b
 
 unfoldable pub child_of : Cut → Block → ℕ → Block
 child_of k b j = child_along k.along k.right b j
@@ -60,13 +59,13 @@ abbrev pub is_kept : ℕ → Coordinate → ℕ → Bool
 is_kept rank c side = leb rank 48 || inside side c.rank c.index
 
 -- are the quarters of the right half listed?
-abbrev pub right_listed : Chosen → Block → DirectionAt → Bool
-right_listed p b (A.Along D.XY) = is_kept b.x.rank (high_half b.x) p.width
-right_listed p b (A.Along D.M) = false
-right_listed p b (A.Along D.N) = false
-right_listed p b (A.Along D.Theta) = false
-right_listed p b (A.Along D.T) = false
-right_listed p b A.Beyond = false
+abbrev pub right_listed : Chosen → Block → Option Direction → Bool
+right_listed p b (Some D.XY) = is_kept b.x.rank (high_half b.x) p.width
+right_listed p b (Some D.M) = false
+right_listed p b (Some D.N) = false
+right_listed p b (Some D.Theta) = false
+right_listed p b (Some D.T) = false
+right_listed p b None = false
 
 -- how a block is cut: its direction, and how many children it has; a damaged one has none
 unfoldable pub cut_of : Chosen → Block → Cut

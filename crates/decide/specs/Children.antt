@@ -1,5 +1,5 @@
 -- Document 01, the sentence of the step that lists the children of a block, by its direction.
-use Rattle.std.specs.Prelude.{Bool, cond, ◌&&◌, List, [], ◌∷◌, ◌++◌, map, ◌-◌, ltb, length, replicate}
+use Rattle.std.specs.Prelude.{Bool, cond, ◌&&◌, List, [], ◌∷◌, ◌++◌, map, ◌-◌, ltb, length, replicate, Option, Some, None}
 use Rattle.coordinate.specs.declared.Coordinate.{Coordinate}
 use Rattle.coordinate.specs.Axis.{inside}
 use Rattle.coordinate.specs.Lone.{low_half, high_half}
@@ -8,8 +8,6 @@ use Rattle.interval.specs.Cuts.{later_cut}
 use Rattle.queue.specs.declared.Block.{Block}
 use Rattle.queue.specs.declared.directions.Direction.{Direction}
 use Rattle.queue.specs.declared.directions.Direction.TheVariants as D
-use Rattle.queue.specs.declared.directions.DirectionAt.{DirectionAt}
-use Rattle.queue.specs.declared.directions.DirectionAt.TheVariants as A
 use Rattle.queue.specs.Block.{is_integer, parameter_of, with_parameter}
 use Rattle.decide.specs.declared.Chosen.{Chosen}
 use Rattle.decide.specs.declared.children.Children.{Children}
@@ -43,13 +41,13 @@ unfoldable pub children_cut : Block → Direction → List Block
 children_cut b d = map (with_parameter b d) (later_cut (put_interval (parameter_of b d)) (is_integer d))
 
 -- by the direction; where there is none the block is its own child
-abbrev pub children_along : Chosen → Block → DirectionAt → List Block
-children_along p b (A.Along D.XY) = children_xy p b
-children_along p b (A.Along D.M) = children_cut b D.M
-children_along p b (A.Along D.N) = children_cut b D.N
-children_along p b (A.Along D.Theta) = children_cut b D.Theta
-children_along p b (A.Along D.T) = children_cut b D.T
-children_along p b A.Beyond = b ∷ []
+abbrev pub children_along : Chosen → Block → Option Direction → List Block
+children_along p b (Some D.XY) = children_xy p b
+children_along p b (Some D.M) = children_cut b D.M
+children_along p b (Some D.N) = children_cut b D.N
+children_along p b (Some D.Theta) = children_cut b D.Theta
+children_along p b (Some D.T) = children_cut b D.T
+children_along p b None = b ∷ []
 
 -- the children; a damaged block has none
 unfoldable pub children_of : Chosen → Block → List Block

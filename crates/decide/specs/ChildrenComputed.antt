@@ -1,24 +1,14 @@
--- Only private contracts cite this page: how a block is cut, as the code counts its children, and rebuilt with other parameters.
-use Rattle.std.specs.Prelude.{Bool, true, false, cond, ℕ, length}
+-- Only private contracts cite this page: how a block is cut, as the code counts its children.
+use Rattle.std.specs.Prelude.{Bool, true, false, cond, ℕ, length, Some}
 use Rattle.coordinate.specs.declared.Coordinate.{Coordinate}
 use Rattle.interval.specs.declared.Interval.{Interval}
 use Rattle.interval.specs.Bounds.{legal_interval, put_interval}
 use Rattle.interval.specs.Cuts.{later_cut}
-use Rattle.queue.specs.declared.Block.{Block}
 use Rattle.queue.specs.declared.directions.Direction.{Direction}
 use Rattle.queue.specs.declared.directions.Direction.TheVariants as D
-use Rattle.queue.specs.declared.directions.DirectionAt.TheVariants as A
 use Rattle.decide.specs.declared.Chosen.{Chosen}
 use Rattle.decide.specs.declared.children.Cut.{Cut}
 use Rattle.decide.specs.ChildAt.{is_kept, half_of}
-
--- is a direction the one that makes quarters?
-abbrev pub is_quartered : Direction → Bool
-is_quartered D.XY = true
-is_quartered D.M = false
-is_quartered D.N = false
-is_quartered D.Theta = false
-is_quartered D.T = false
 
 -- the quarters, by which of the high halves are listed
 abbrev pub quarter_count : Bool → Bool → ℕ
@@ -27,7 +17,7 @@ quarter_count right above = cond right (cond above 4 2) (cond above 2 1)
 abbrev pub quarters_cut : Chosen → Coordinate → Coordinate → Cut
 quarters_cut p x y =
     record {
-      along = A.Along D.XY;
+      along = Some D.XY;
       right = is_kept x.rank (half_of x true) p.width;
       count = quarter_count (is_kept x.rank (half_of x true) p.width) (is_kept x.rank (half_of y true) p.height);
     }
@@ -37,8 +27,4 @@ unfoldable pub later_count : Interval → Bool → ℕ
 later_count x integer = cond (legal_interval x integer) (length (later_cut (put_interval x) integer)) 0
 
 abbrev pub pieces_cut : Direction → Interval → Bool → Cut
-pieces_cut d x integer = record { along = A.Along d; right = false; count = later_count x integer }
-
--- the block with other parameters
-abbrev pub with_parameters : Block → Interval → Interval → Interval → Interval → Block
-with_parameters b m n theta t = record { x = b.x; y = b.y; m = m; n = n; theta = theta; t = t; dir = b.dir }
+pieces_cut d x integer = record { along = Some d; right = false; count = later_count x integer }

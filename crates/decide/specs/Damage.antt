@@ -1,6 +1,6 @@
 -- Document 01, the table of refusals: which pictures are legal (rows 1 and 3), and when a block that was decoded is damaged (the list under row 8).
 -- Whether bytes decode is `queue`'s to say; the cells that a block covers stand at the end of this page.
-use Rattle.std.specs.Prelude.{Bool, true, false, ◌&&◌, List, ℕ, leb, eqb, length}
+use Rattle.std.specs.Prelude.{Bool, true, false, ◌&&◌, List, ℕ, leb, eqb, length, Option, Some, None}
 use Rattle.coordinate.specs.Axis.{ordinary_floor, above_floor}
 pub use Rattle.coordinate.specs.Axis.{legal_side}
 pub use Rattle.coordinate.specs.Lone.{place_right}
@@ -9,12 +9,9 @@ use Rattle.image.specs.Cell.{Cell, is_damaged}
 use Rattle.image.specs.Range.{rectangle_of}
 use Rattle.image.specs.Painting.{held_cells, some_of, some_seen}
 use Rattle.image.specs.declared.CellKind.TheVariants as K
-use Rattle.image.specs.declared.Seen.{Seen}
 use Rattle.queue.specs.declared.Block.{Block}
 use Rattle.queue.specs.declared.directions.Direction.{Direction}
 use Rattle.queue.specs.declared.directions.Direction.TheVariants as D
-use Rattle.queue.specs.declared.directions.DirectionAt.{DirectionAt}
-use Rattle.queue.specs.declared.directions.DirectionAt.TheVariants as A
 use Rattle.queue.specs.Directions.{directions, direction_at}
 use Rattle.decide.specs.declared.Chosen.{Chosen}
 
@@ -26,7 +23,7 @@ unfoldable pub legal_chosen : Chosen → Bool
 legal_chosen p = legal_side p.width && legal_side p.height && legal_set p.set
 
 -- the direction that a block's byte names
-abbrev pub direction_of : Chosen → Block → DirectionAt
+abbrev pub direction_of : Chosen → Block → Option Direction
 direction_of p b = direction_at (directions p.set) b.dir
 
 -- a direction that the block can be cut along: xy only above the floor
@@ -38,9 +35,9 @@ cuttable b D.Theta = true
 cuttable b D.T = true
 
 -- the byte names a direction in use; where none is in use it is 0
-abbrev pub direction_right : Chosen → Block → DirectionAt → Bool
-direction_right p b (A.Along d) = cuttable b d
-direction_right p b A.Beyond = eqb (length (directions p.set)) 0 && eqb b.dir 0
+abbrev pub direction_right : Chosen → Block → Option Direction → Bool
+direction_right p b (Some d) = cuttable b d
+direction_right p b None = eqb (length (directions p.set)) 0 && eqb b.dir 0
 
 -- all four parameters are intervals; m, n and n_theta with whole bounds
 abbrev pub parameters_right : Block → Bool
@@ -65,5 +62,5 @@ unfoldable pub cell_damaged : Chosen → Block → List Cell → Bool
 cell_damaged p b l = some_of is_damaged (covered_cells p b l)
 
 -- the same of lent cells; where they are fewer than the pixels nothing is seen
-abbrev pub damage_seen : Chosen → Block → List ℕ → Seen
+abbrev pub damage_seen : Chosen → Block → List ℕ → Option Bool
 damage_seen p b cells = some_seen p.width p.height (rectangle_of b.x b.y p.width p.height) K.Damaged cells

@@ -1,5 +1,5 @@
 -- Document 01, the step's last part: where each incomplete child looks for the direction in which it is cut next.
-use Rattle.std.specs.Prelude.{Bool, true, false, cond, ◌&&◌, List, ℕ, zero, suc, ◌+◌, ◌%◌, leb, length}
+use Rattle.std.specs.Prelude.{Bool, true, false, cond, ◌&&◌, List, ℕ, zero, suc, ◌+◌, ◌%◌, leb, length, Option, Some, None}
 use Rattle.coordinate.specs.Axis.{ordinary_floor, above_floor}
 use Rattle.interval.specs.declared.Interval.{Interval}
 use Rattle.interval.specs.Bounds.{legal_interval, put_interval}
@@ -7,22 +7,18 @@ use Rattle.interval.specs.Cuts.{subdivisible}
 use Rattle.queue.specs.declared.Block.{Block}
 use Rattle.queue.specs.declared.directions.Direction.{Direction}
 use Rattle.queue.specs.declared.directions.Direction.TheVariants as D
-use Rattle.queue.specs.declared.directions.DirectionAt.{DirectionAt}
-use Rattle.queue.specs.declared.directions.DirectionAt.TheVariants as A
 use Rattle.queue.specs.Directions.{directions, direction_at}
 use Rattle.decide.specs.declared.Chosen.{Chosen}
-use Rattle.decide.specs.declared.turn.Found.{Found}
-use Rattle.decide.specs.declared.turn.Found.TheVariants as F
 use Rattle.decide.specs.Damage.{direction_of}
 
 -- so many incomplete children are few, by the direction in which their parent was cut
-abbrev pub incomplete_limit : DirectionAt → ℕ
-incomplete_limit (A.Along D.XY) = 1
-incomplete_limit (A.Along D.M) = 2
-incomplete_limit (A.Along D.N) = 2
-incomplete_limit (A.Along D.Theta) = 2
-incomplete_limit (A.Along D.T) = 2
-incomplete_limit A.Beyond = 0
+abbrev pub incomplete_limit : Option Direction → ℕ
+incomplete_limit (Some D.XY) = 1
+incomplete_limit (Some D.M) = 2
+incomplete_limit (Some D.N) = 2
+incomplete_limit (Some D.Theta) = 2
+incomplete_limit (Some D.T) = 2
+incomplete_limit None = 0
 
 -- while they are few the search begins at the parent's direction, else at the one after it
 unfoldable pub start_of : Chosen → Block → ℕ → ℕ
@@ -33,22 +29,22 @@ unfoldable pub splits_at : Interval → Bool → Bool
 splits_at x integer = legal_interval x integer && subdivisible (put_interval x) integer
 
 -- can a block be cut in a direction? xy above the floor, a parameter by its midpoint
-abbrev pub subdivisible_along : Block → DirectionAt → Bool
-subdivisible_along c (A.Along D.XY) = above_floor ordinary_floor c.x.rank
-subdivisible_along c (A.Along D.M) = splits_at c.m true
-subdivisible_along c (A.Along D.N) = splits_at c.n true
-subdivisible_along c (A.Along D.Theta) = splits_at c.theta true
-subdivisible_along c (A.Along D.T) = splits_at c.t false
-subdivisible_along c A.Beyond = false
+abbrev pub subdivisible_along : Block → Option Direction → Bool
+subdivisible_along c (Some D.XY) = above_floor ordinary_floor c.x.rank
+subdivisible_along c (Some D.M) = splits_at c.m true
+subdivisible_along c (Some D.N) = splits_at c.n true
+subdivisible_along c (Some D.Theta) = splits_at c.theta true
+subdivisible_along c (Some D.T) = splits_at c.t false
+subdivisible_along c None = false
 
 -- the first subdivisible of so many directions from a place on, round the end of the list
-unfoldable pub searched_from : List Direction → Block → ℕ → ℕ → Found
-searched_from ds c zero at = F.Nothing
+unfoldable pub searched_from : List Direction → Block → ℕ → ℕ → Option ℕ
+searched_from ds c zero at = None
 searched_from ds c (suc n) at =
-    cond (subdivisible_along c (direction_at ds (at % length ds))) (F.At (at % length ds)) (searched_from ds c n (at + 1))
+    cond (subdivisible_along c (direction_at ds (at % length ds))) (Some (at % length ds)) (searched_from ds c n (at + 1))
 
 -- all of them
-abbrev pub searched : Chosen → Block → ℕ → Found
+abbrev pub searched : Chosen → Block → ℕ → Option ℕ
 searched p c at = searched_from (directions p.set) c (length (directions p.set)) at
 
 -- the block with another direction byte
@@ -60,9 +56,9 @@ pub data Turned : Type 0 where
   To : Block → Turned
   Nowhere : Turned
 
-abbrev pub turned_by : Block → Found → Turned
-turned_by c (F.At d) = To (turned_to c d)
-turned_by c F.Nothing = Nowhere
+abbrev pub turned_by : Block → Option ℕ → Turned
+turned_by c (Some d) = To (turned_to c d)
+turned_by c None = Nowhere
 
 -- the child with the direction that a search from a place on finds
 abbrev pub turned_found : Chosen → ℕ → Block → Turned

@@ -5,11 +5,12 @@ ghost use Rattle.decide.specs.Damage.{legal_chosen, direction_of, direction_righ
 
 use super::Chosen;
 use coordinate::{FLOOR_RANK, is_legal_side, is_placed};
-use image::{CellKind, Seen};
+use image::CellKind;
 use interval::Interval;
-use queue::{Block, Direction, DirectionAt, direction_at, direction_count, whole_line};
+use queue::{Block, Direction, direction_at, direction_count, whole_line};
 
 // Whether the sides and the variable set are ones that a setup takes.
+#[tactic(auto, unfolding(crate::specs::Damage::legal_chosen))]
 pub fn is_legal_chosen(p: Chosen) -> bool
     ensures { result ≡ legal_chosen p }
 {
@@ -17,14 +18,13 @@ pub fn is_legal_chosen(p: Chosen) -> bool
 }
 
 // Whether a block taken from a queue is one that a step can go on with.
+#[tactic(auto, unfolding(crate::specs::Damage::undamaged))]
 pub(crate) fn is_undamaged(p: Chosen, b: Block) -> bool
     ensures { result ≡ undamaged p b }
 {
-    let x = b.x;
-    let y = b.y;
-    (x.rank == y.rank)
-        & is_placed(x, p.width)
-        & is_placed(y, p.height)
+    (b.x.rank == b.y.rank)
+        & is_placed(b.x, p.width)
+        & is_placed(b.y, p.height)
         & is_directed(p, b)
         & has_legal_parameters(b)
 }
@@ -34,22 +34,15 @@ fn is_directed(p: Chosen, b: Block) -> bool
     ensures { result ≡ direction_right p b (direction_of p b) }
 {
     match direction_at(p.set, b.dir) {
-        DirectionAt::Along(d) => is_cuttable(b, d),
-        DirectionAt::Beyond => (direction_count(p.set) == 0) & (b.dir == 0),
+        Some(d) => is_cuttable(b, d),
+        None => (direction_count(p.set) == 0) & (b.dir == 0),
     }
 }
 
 pub(crate) fn is_cuttable(b: Block, d: Direction) -> bool
     ensures { result ≡ cuttable b d }
 {
-    let x = b.x;
-    match d {
-        Direction::XY => FLOOR_RANK < x.rank,
-        Direction::M => true,
-        Direction::N => true,
-        Direction::Theta => true,
-        Direction::T => true,
-    }
+    (d != Direction::XY) | (FLOOR_RANK < b.x.rank)
 }
 
 // Whether a parameter is legal; as a rule it is not in use, and the whole line.
@@ -73,7 +66,7 @@ fn has_legal_parameters(b: Block) -> bool
 }
 
 // Whether a cell that the block covers is neither a number, nor True, nor given up.
-pub fn has_damaged_cell(p: Chosen, b: Block, cells: &[u64]) -> Seen
+pub fn has_damaged_cell(p: Chosen, b: Block, cells: &[u64]) -> Option<bool>
     ensures { result ≡ damage_seen p b cells.now }
 {
     let r = image::rectangle(b.x, b.y, p.width, p.height);

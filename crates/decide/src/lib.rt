@@ -12,7 +12,7 @@ mod verdict;
 pub use children::{Children, Cut, Place, child_of, children_of, cut_of, place_of};
 pub use coordinate::is_legal_side;
 pub use damage::{has_damaged_cell, is_legal_chosen};
-pub use turn::{Found, find_direction, start_of};
+pub use turn::{find_direction, start_of};
 pub use verdict::{Outcome, cost_of, is_legal_verdict, judge};
 
 // What a setup chooses and no step changes: the sides in pixels, and the variables in use. The reserved bytes are for what later

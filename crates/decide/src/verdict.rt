@@ -5,7 +5,7 @@ ghost use Rattle.decide.specs.Verdict.{legal_verdict, first_point, undecided_out
 use coordinate::PIXEL_RANK;
 
 // What becomes of a child before directions are sought.
-#[derive(Clone, Copy)]
+#[derive(Clone, Copy, Debug, PartialEq, Eq)]
 pub enum Outcome {
     // All its cells were True already, so its verdict plays no part.
     Skipped,
@@ -20,6 +20,7 @@ pub enum Outcome {
 }
 
 // Whether a verdict byte is one that a child of this rank can get.
+#[tactic(auto, unfolding(crate::specs::Verdict::legal_verdict))]
 pub fn is_legal_verdict(rank: u8, v: u8) -> bool
     ensures { result ≡ legal_verdict rank v }
 {
@@ -40,6 +41,7 @@ pub fn judge(rank: u8, v: u8, all: bool) -> Outcome
 }
 
 // What a verdict makes of a child that is not skipped.
+#[tactic(auto, unfolding(crate::specs::Verdict::verdict_outcome))]
 fn by_verdict(rank: u8, v: u8) -> Outcome
     ensures { result ≡ verdict_outcome rank v }
 {
@@ -56,6 +58,7 @@ fn by_verdict(rank: u8, v: u8) -> Outcome
 }
 
 // What an undecided verdict makes of a child: without the area bit no point is tried.
+#[tactic(auto, unfolding(crate::specs::Verdict::undecided_outcome))]
 fn undecided(v: u8) -> Outcome
     requires { v / 64 ≡ 1 }
     ensures { result ≡ undecided_outcome v }

@@ -13,7 +13,9 @@ use Rattle.base.specs.Bytes.{little_endian, of_little_endian, big_endian, of_big
 use Rattle.base.specs.Event.{queued_by}
 use Rattle.base.specs.Lists.{Every}
 use Rattle.base.specs.Places.{any_of, first_from, last_from, last_value, latest_number, latest_value}
+use Rattle.std.specs.Prelude.{Result, Ok, Err}
 use Rattle.refusal.specs.Number.{number}
+use Rattle.refusal.specs.declared.Refusal.{Refusal}
 use Rattle.interval.specs.declared.Interval.{Interval}
 use Rattle.interval.specs.Bounds.{in_units, whole_bound, legal_interval, zero_as, put_interval, same_interval}
 use Rattle.interval.specs.Answers.{answer_from_bits}
@@ -54,10 +56,10 @@ use Rattle.explain.specs.Reasons.{last_mark, last_point, last_denial, last_givin
 use Rattle.explain.specs.Explained.{pixel_inside, beginning, world_begun, reason_after, explained}
 
 -- what is said: the reason, or the number of the refusal
-abbrev said : Explanation → Reason ⊎ ℕ
-said (X.Of reason state steps evaluations tape ending) = inl reason
-said (X.Stopped why state steps evaluations tape) = inr (number why)
-said (X.Refused why) = inr (number why)
+abbrev said : Result Explanation Refusal → Reason ⊎ ℕ
+said (Ok (X.Of reason state steps evaluations tape ending)) = inl reason
+said (Ok (X.Stopped why state steps evaluations tape)) = inr (number why)
+said (Err why) = inr (number why)
 
 -- a picture of so many pixels, with the variables of this set
 abbrev picture : ℕ → ℕ → ℕ → Chosen

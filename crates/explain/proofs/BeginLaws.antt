@@ -1,26 +1,23 @@
 -- Whether a setup begins, found without writing; where it does, what it leaves; and so whether 18 applies. Assumes nothing.
 use mathlib.Core.Path.{◌≡◌, refl, sym, ◌∙◌}
-use mathlib.Core.Bool.{Bool, true, false, cond, not, ◌&&◌}
+use mathlib.Core.Bool.{Bool, true, false, cond, ◌&&◌}
 use mathlib.Core.List.{List}
 use Prim.Native.Nat.{ℕ, ◌≤◌, ◌<◌}
 use native.Mathlib.Omega.{arith}
-use lib.Dec.{leb, ltb}
+use lib.Dec.{leb}
 use lib.ListN.{length}
 use borrow.Author.Tests.{le-leb, lt-leb}
+use Rattle.std.specs.Prelude.{Result, Ok, Err, MatchResult}
 use Rattle.base.proofs.Test.{cases, and_left, and_right}
 use Rattle.refusal.specs.declared.Refusal.{Refusal}
 use Rattle.refusal.specs.declared.Refusal.TheVariants as R
 use Rattle.decide.specs.declared.Chosen.{Chosen}
 use Rattle.decide.specs.Damage.{legal_side}
-use Rattle.implicit.specs.declared.state.NeededAnswer.{NeededAnswer}
-use Rattle.implicit.specs.declared.state.NeededAnswer.TheVariants as N
-use Rattle.implicit.specs.declared.state.SetupAnswer.TheVariants as Sa
 use Rattle.implicit.specs.declared.state.State.{State}
 use Rattle.implicit.specs.declared.state.Ranges.{Ranges}
 use Rattle.implicit.specs.Record.{pixel_count}
 use Rattle.implicit.specs.Setup.{ranges_legal, first_bytes, setup_refusal, least_ring, start_record, start_ring}
 use Rattle.implicit.specs.Setup.{start_cells, setup_answer, ring_begun, cells_begun}
-use Rattle.explain.specs.Explained.{pixel_inside}
 use Rattle.explain.specs.ExplainComputed.{is_ready}
 
 module _ (p : Chosen) (r : Ranges) (len count : ℕ) where
@@ -50,48 +47,44 @@ module _ (p : Chosen) (r : Ranges) (len count : ℕ) where
   and_none true = refl
   and_none false = refl
 
-  abbrev needs_of : Bool → Bool → NeededAnswer
-  needs_of s t = cond s (cond t (N.Bytes (length (first_bytes p r))) (N.Refused R.Parameter)) (N.Refused R.Side)
+  abbrev needs_of : Bool → Bool → Result ℕ Refusal
+  needs_of s t = cond s (cond t (Ok (length (first_bytes p r))) (Err R.Parameter)) (Err R.Side)
 
   pub begins_few : count < pixel_count p → false ≡ is_ready (setup_answer p r len count)
   begins_few h = sym (ready_as ∙ rw (lt-leb (pixel_count p) count h) (and_none sides))
 
   -- by the bytes that it needs
-  module _ (enough : pixel_count p ≤ count) (a : NeededAnswer) (e : a ≡ least_ring p r) where
-    pub begins_bytes : (need : ℕ) → a ≡ N.Bytes need → leb need len ≡ is_ready (setup_answer p r len count)
+  module _ (enough : pixel_count p ≤ count) (a : Result ℕ Refusal) (e : a ≡ least_ring p r) where
+    pub begins_bytes : (need : ℕ) → a ≡ Ok need → leb need len ≡ is_ready (setup_answer p r len count)
     unfolding least_ring
     begins_bytes need f = go sides ranges_are_legal (sym e ∙ f) ∙ sym (ready_as ∙ rw (le-leb (pixel_count p) count enough))
       where
-        go : (s t : Bool) → needs_of s t ≡ N.Bytes need → leb need len ≡ (s && (t && room))
+        go : (s t : Bool) → needs_of s t ≡ Ok need → leb need len ≡ (s && (t && room))
         go true true g = let k : length (first_bytes p r) ≡ need = cc in rw (← k)
         go true false g = let z : ◌≡◌ {A = ℕ} 0 1 = cc in absurd (omega arith)
         go false t g = let z : ◌≡◌ {A = ℕ} 0 1 = cc in absurd (omega arith)
 
-    pub begins_not : (why : Refusal) → a ≡ N.Refused why → false ≡ is_ready (setup_answer p r len count)
+    pub begins_not : (why : Refusal) → a ≡ Err why → false ≡ is_ready (setup_answer p r len count)
     unfolding least_ring
     begins_not why f = go sides ranges_are_legal (sym e ∙ f) ∙ sym (ready_as ∙ rw (le-leb (pixel_count p) count enough))
       where
-        go : (s t : Bool) → needs_of s t ≡ N.Refused why → false ≡ (s && (t && room))
+        go : (s t : Bool) → needs_of s t ≡ Err why → false ≡ (s && (t && room))
         go true true g = let z : ◌≡◌ {A = ℕ} 0 1 = cc in absurd (omega arith)
         go true false g = refl
         go false t g = refl
 
-  -- 18 applies where the pixel lies outside, and a setup would begin
-  pub inside_not : (column row : ℕ) → ltb column p.width && ltb row p.height ≡ true
-      → false ≡ (not (pixel_inside p column row) && is_ready (setup_answer p r len count))
-  unfolding pixel_inside
-  inside_not column row e = rw e
-
-  pub outside_begins : (column row : ℕ) (b : Bool) → ltb column p.width && ltb row p.height ≡ false
-      → b ≡ is_ready (setup_answer p r len count) → b ≡ (not (pixel_inside p column row) && is_ready (setup_answer p r len count))
-  unfolding pixel_inside
-  outside_begins column row b e f = rw e f
+  -- so by what is said of each number of them
+  pub begins_by : pixel_count p ≤ count → (a : Result ℕ Refusal) → a ≡ least_ring p r → (b : Bool) (says : ℕ → Type 0)
+      → ((need : ℕ) → says need → b ≡ leb need len) → MatchResult a says (λ (why : Refusal). b ≡ false)
+      → b ≡ is_ready (setup_answer p r len count)
+  begins_by enough (Ok need) e b says f m = f need m ∙ begins_bytes enough (Ok need) e need refl
+  begins_by enough (Err why) e b says f m = m ∙ begins_not enough (Err why) e why refl
 
   -- where it is ready there is a cell for each pixel, and the record is the one that a setup leaves
   pub ready_enough : is_ready (setup_answer p r len count) ≡ true → leb (pixel_count p) count ≡ true
   ready_enough e = and_left cells_enough _ (and_right sides _ (sym ready_as ∙ e))
 
-  pub ready_state : (s : State) → setup_answer p r len count ≡ Sa.Ready s → s ≡ start_record p r len
+  pub ready_state : (s : State) → setup_answer p r len count ≡ Ok s → s ≡ start_record p r len
   unfolding setup_answer setup_refusal
   ready_state s f =
       cases sides
@@ -104,10 +97,10 @@ module _ (p : Chosen) (r : Ranges) (len count : ℕ) where
       (λ g. no (rw (e, g) at f)))
       (λ e. no (rw e at f))
     where
-      yes : Sa.Ready (start_record p r len) ≡ Sa.Ready s → s ≡ start_record p r len
+      yes : ◌≡◌ {A = Result State Refusal} (Ok (start_record p r len)) (Ok s) → s ≡ start_record p r len
       yes k = let j : start_record p r len ≡ s = cc in sym j
 
-      no : {why : Refusal} → Sa.Refused why ≡ Sa.Ready s → s ≡ start_record p r len
+      no : {why : Refusal} → ◌≡◌ {A = Result State Refusal} (Err why) (Ok s) → s ≡ start_record p r len
       no k = let z : ◌≡◌ {A = ℕ} 0 1 = cc in absurd (omega arith)
 
   -- and ring and cells are those; where it is not they stay

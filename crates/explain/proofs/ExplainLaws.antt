@@ -8,13 +8,12 @@ use lib.Dec.{leb, ltb}
 use lib.ListN.{length, get_or, get_or-map}
 use borrow.Author.Tests.{ltb-true}
 use Rattle.base.proofs.Test.{and_left, and_right}
+use Rattle.std.specs.Prelude.{Result, Ok, Err}
 use Rattle.refusal.specs.declared.Refusal.{Refusal}
 use Rattle.refusal.specs.declared.Refusal.TheVariants as R
 use Rattle.image.specs.Cell.{Cell, meaning_of}
 use Rattle.queue.specs.declared.Block.{Block}
 use Rattle.decide.specs.declared.Chosen.{Chosen}
-use Rattle.implicit.specs.declared.state.SetupAnswer.{SetupAnswer}
-use Rattle.implicit.specs.declared.state.SetupAnswer.TheVariants as Sa
 use Rattle.implicit.specs.declared.state.State.{State}
 use Rattle.implicit.specs.declared.state.Ranges.{Ranges}
 use Rattle.implicit.specs.declared.state.Ending.{Ending}
@@ -27,7 +26,6 @@ use Rattle.explain.specs.declared.noting.Notes.{Notes}
 use Rattle.explain.specs.declared.repeating.Repeated.{Repeated}
 use Rattle.explain.specs.declared.reason.Reason.{Reason}
 use Rattle.explain.specs.declared.reason.Explanation.{Explanation}
-use Rattle.explain.specs.declared.reason.Explanation.TheVariants as X
 use Rattle.explain.specs.History.{PastStep, history_from}
 use Rattle.explain.specs.Reasons.{covers_at, cell_at, reason_of}
 use Rattle.explain.specs.Explained.{pixel_inside, and_then_pixel, beginning, world_begun, reason_after}
@@ -41,10 +39,10 @@ use Rattle.explain.proofs.BeginLaws.{ready_enough, ready_state, ready_ring, refu
 use Rattle.explain.proofs.ReasonLaws.{noted_reason}
 
 -- the answer by how a run ended, which counted the same
-ended_as : (p : Repeated) (reason : Reason) (e : RunEnd) → p.state ≡ e.world.state → p.steps ≡ e.steps
-    → p.evaluations ≡ e.evaluations → p.tape ≡ e.tape → p.ending ≡ e.ending
-    → explanation_of p reason p.ending ≡ explained_by reason e e.ending
-ended_as p reason e s n v t f = ap (explanation_of p reason) f ∙ go e.ending
+ended_as : (p : Repeated) (ending : Ending) (reason : Reason) (e : RunEnd) → p.state ≡ e.world.state → p.steps ≡ e.steps
+    → p.evaluations ≡ e.evaluations → p.tape ≡ e.tape → ending ≡ e.ending
+    → explanation_of p reason ending ≡ explained_by reason e e.ending
+ended_as p ending reason e s n v t f = ap (explanation_of p reason) f ∙ go e.ending
   where
     go : (x : Ending) → explanation_of p reason x ≡ explained_by reason e x
     go E.Done = rw (s, n, v, t)
@@ -67,7 +65,7 @@ module _ (steps column row : ℕ) (s : State) (ring cells tape : List ℕ)
   abbrev here : Block → Bool
   here = covers_at s.chosen column row
 
-  module _ (p : Repeated) (ring' cells' : List ℕ) (ran : RepeatedTo end p ring' cells')
+  module _ (p : Repeated) (ending : Ending) (ring' cells' : List ℕ) (ran : RepeatedTo end p ending ring' cells')
       (notes : p.notes ≡ notes_after column row steps begun tape 0 no_notes) (same : p.state.chosen ≡ s.chosen) where
     -- the pixel's cell
     abbrev cell : Cell
@@ -90,11 +88,11 @@ module _ (steps column row : ℕ) (s : State) (ring cells tape : List ℕ)
         ∙ ap (λ (w : World). reason_of here w past (cell_at s.chosen column row w.cells)) world_is
 
     pub answer_from : (reason : Reason) → reason ≡ reason_noted p.state ring' p.notes cell → (r : Explanation)
-        → r ≡ explanation_of p reason p.ending → ExplainsFrom steps column row begun tape r ring' cells'
+        → r ≡ explanation_of p reason ending → ExplainsFrom steps column row begun tape r ring' cells'
     answer_from reason e r f =
         let state_is : p.state ≡ end.world.state = ap (λ (w : World). w.state) world_is in
         record {
-          answer = f ∙ ended_as p reason end state_is ran.steps ran.evaluations ran.tape ran.ending
+          answer = f ∙ ended_as p ending reason end state_is ran.steps ran.evaluations ran.tape ran.ending
               ∙ ap (λ (q : Reason). explained_by q end end.ending) (reason_is reason e);
           ring_left = ap (λ (w : World). w.ring) world_is;
           cells_left = ap (λ (w : World). w.cells) world_is;
@@ -102,22 +100,22 @@ module _ (steps column row : ℕ) (s : State) (ring cells tape : List ℕ)
 
 -- IT BEGAN: the setup is ready, the pixel lies inside, and this is the world
 module _ (p : Chosen) (r : Ranges) (ring cells : List ℕ) (column row : ℕ) where
-  abbrev setting : SetupAnswer
+  abbrev setting : Result State Refusal
   setting = setup_answer p r (length ring) (length cells)
 
   pub record Began (s : State) (ring' cells' : List ℕ) : Type 0 where
-    pub answered : setting ≡ Sa.Ready s
+    pub answered : setting ≡ Ok s
     pub inside : pixel_inside p column row ≡ true
     pub chosen : s.chosen ≡ p
     pub world : world_of s ring' cells' ≡ world_begun p r ring cells
 
   -- it did, where 18 does not apply
-  pub ready : (t : Bool) → t ≡ (not (pixel_inside p column row) && is_ready setting) → t ≡ false → (a : SetupAnswer) → a ≡ setting
+  pub ready : (t : Bool) → t ≡ (not (pixel_inside p column row) && is_ready setting) → t ≡ false → (a : Result State Refusal) → a ≡ setting
       → (ring' cells' : List ℕ) → ring' ≡ ring_begun p r ring cells → cells' ≡ cells_begun p r ring cells
-      → (s : State) → a ≡ Sa.Ready s → Began s ring' cells'
+      → (s : State) → a ≡ Ok s → Began s ring' cells'
   unfolding world_begun start_record
   ready t is_t passed a is_a ring' cells' is_ring is_cells s f =
-      let g : setting ≡ Sa.Ready s = sym is_a ∙ f in
+      let g : setting ≡ Ok s = sym is_a ∙ f in
       let y : is_ready setting ≡ true = ap is_ready g in
       let st = ready_state p r (length ring) (length cells) s g in
       let (u, v) = ready_ring p r (length ring) (length cells) ring cells refl refl y in
@@ -146,27 +144,27 @@ module _ (p : Chosen) (r : Ranges) (ring cells : List ℕ) (column row : ℕ) wh
       )
 
 -- 18, once the setup would begin
-pixel_says : (a : SetupAnswer) (s : State) (inside : Bool) → a ≡ Sa.Ready s → inside ≡ false
-    → (rest : Explanation) (after before after₂ before₂ : List ℕ) → (X.Refused R.Pixel ≡ unless_refused (and_then_pixel a inside) rest)
+pixel_says : (a : Result State Refusal) (s : State) (inside : Bool) → a ≡ Ok s → inside ≡ false
+    → (rest : Explanation) (after before after₂ before₂ : List ℕ) → (Err R.Pixel ≡ unless_refused (and_then_pixel a inside) rest)
     × ((before ≡ if_ready (and_then_pixel a inside) after before) × (before₂ ≡ if_ready (and_then_pixel a inside) after₂ before₂))
 pixel_says a s inside e f rest after before after₂ before₂ = rw (e, f) (refl, (refl, refl))
 
 -- THE ENTRY
 module _ (p : Chosen) (r : Ranges) (ring cells tape : List ℕ) (steps column row : ℕ) where
-  abbrev Says : Explanation → List ℕ → List ℕ → Type 0
+  abbrev Says : Result Explanation Refusal → List ℕ → List ℕ → Type 0
   Says a ring' cells' =
       (a ≡ explained p r ring cells tape steps column row)
       × ((ring' ≡ ring_explained p r ring cells tape steps column row) × (cells' ≡ cells_explained p r ring cells tape steps column row))
 
-  abbrev answer : SetupAnswer
+  abbrev answer : Result State Refusal
   answer = setup_answer p r (length ring) (length cells)
 
-  is_ready_lem : (a : SetupAnswer) → is_ready a ≡ true → (s : State) × (a ≡ Sa.Ready s)
-  is_ready_lem (Sa.Ready s) e = (s, refl)
-  is_ready_lem (Sa.Refused why) e = let z : ◌≡◌ {A = ℕ} 0 1 = cc in absurd (omega arith)
+  is_ready_lem : (a : Result State Refusal) → is_ready a ≡ true → (s : State) × (a ≡ Ok s)
+  is_ready_lem (Ok s) e = (s, refl)
+  is_ready_lem (Err why) e = let z : ◌≡◌ {A = ℕ} 0 1 = cc in absurd (omega arith)
 
   -- the pixel is refused
-  pub refused_pixel : (t : Bool) → t ≡ (not (pixel_inside p column row) && is_ready answer) → t ≡ true → Says (X.Refused R.Pixel) ring cells
+  pub refused_pixel : (t : Bool) → t ≡ (not (pixel_inside p column row) && is_ready answer) → t ≡ true → Says (Err R.Pixel) ring cells
   unfolding explained ring_explained cells_explained beginning
   refused_pixel t is_t e =
       let i = pixel_inside p column row in
@@ -179,11 +177,11 @@ module _ (p : Chosen) (r : Ranges) (ring cells tape : List ℕ) (steps column ro
       is_not false e = refl
 
   -- the setup is refused
-  pub not_ready : (a : SetupAnswer) → a ≡ answer → (ring' cells' : List ℕ) → ring' ≡ ring_begun p r ring cells
-      → cells' ≡ cells_begun p r ring cells → (why : Refusal) → a ≡ Sa.Refused why → Says (X.Refused why) ring' cells'
+  pub not_ready : (a : Result State Refusal) → a ≡ answer → (ring' cells' : List ℕ) → ring' ≡ ring_begun p r ring cells
+      → cells' ≡ cells_begun p r ring cells → (why : Refusal) → a ≡ Err why → Says (Err why) ring' cells'
   unfolding explained ring_explained cells_explained beginning
   not_ready a is_a ring' cells' is_ring is_cells why f =
-      let g : answer ≡ Sa.Refused why = sym is_a ∙ f in
+      let g : answer ≡ Err why = sym is_a ∙ f in
       let (u, v) = refused_ring p r (length ring) (length cells) ring cells refl refl (ap is_ready g) in
       rw g (refl, (is_ring ∙ u, is_cells ∙ v))
 
@@ -196,11 +194,11 @@ module _ (p : Chosen) (r : Ranges) (ring cells tape : List ℕ) (steps column ro
   -- it began, and these are the steps
   pub began_explains : (s : State) (ring' cells' : List ℕ) → Began p r ring cells column row s ring' cells'
       → (x : Explanation) (ring'' cells'' : List ℕ) → ExplainsFrom steps column row (world_of s ring' cells') tape x ring'' cells''
-      → Says x ring'' cells''
+      → Says (Ok x) ring'' cells''
   unfolding explained ring_explained cells_explained beginning
   began_explains s ring' cells' b x ring'' cells'' e =
-      rw (b.answered, b.inside)
-      (by_parts s.chosen (world_of s ring' cells') b.chosen b.world e.answer e.ring_left e.cells_left)
+      let (f, g) = by_parts s.chosen (world_of s ring' cells') b.chosen b.world e.answer e.ring_left e.cells_left in
+      rw (b.answered, b.inside) (ap Ok f, g)
     where
       by_parts : (q : Chosen) (w : World) → q ≡ p → w ≡ world_begun p r ring cells → x ≡ said_from q w
           → ring'' ≡ (run_from steps w tape).world.ring → cells'' ≡ (run_from steps w tape).world.cells

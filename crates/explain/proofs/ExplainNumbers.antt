@@ -8,15 +8,16 @@ use Prim.Native.Nat.{ℕ}
 use lib.Dec.{ltb, eqb}
 use lib.ListN.{length}
 use borrow.Author.Tests.{ne_eqb}
+use Rattle.std.specs.Prelude.{Ok, Result, Err}
 use Rattle.refusal.specs.Number.{number}
+use Rattle.refusal.specs.declared.Refusal.{Refusal}
 unfoldable pub use Rattle.refusal.specs.Number.{first_of}
 use Rattle.decide.specs.declared.Chosen.{Chosen}
 use Rattle.decide.specs.Damage.{legal_side}
 use Rattle.implicit.specs.declared.state.Ending.{Ending}
 use Rattle.implicit.specs.declared.state.Ending.TheVariants as E
 use Rattle.implicit.specs.declared.state.Ranges.{Ranges}
-use Rattle.implicit.specs.declared.state.SetupAnswer.{SetupAnswer}
-use Rattle.implicit.specs.declared.state.SetupAnswer.TheVariants as S
+use Rattle.implicit.specs.declared.state.State.{State}
 use Rattle.implicit.specs.Record.{pixel_count}
 use Rattle.implicit.specs.Setup.{ranges_legal, first_bytes, setup_answer}
 use Rattle.implicit.specs.Run.{RunEnd, run_from}
@@ -37,20 +38,20 @@ rows_more false false true d rest = refl
 rows_more false false false true rest = refl
 rows_more false false false false rest = refl
 
-ended_number : (reason : Reason) (e : RunEnd) (x : Ending) → explanation_number (explained_by reason e x) ≡ stop_number x
+ended_number : (reason : Reason) (e : RunEnd) (x : Ending) → explanation_number (Ok (explained_by reason e x)) ≡ stop_number x
 ended_number reason e E.Done = refl
 ended_number reason e E.Limit = refl
 ended_number reason e E.More = refl
 ended_number reason e (E.Stop why) = refl
 
 -- what the setup answers, and then the pixel and the steps
-answer_number : (a : SetupAnswer) (inside : Bool) (reason : Reason) (e : RunEnd)
+answer_number : (a : Result State Refusal) (inside : Bool) (reason : Reason) (e : RunEnd)
     → explanation_number (unless_refused (and_then_pixel a inside) (explained_by reason e e.ending))
     ≡ cond (eqb (setup_number a) 0) (first_of ((18, not inside) ∷ (stop_number e.ending, true) ∷ [])) (setup_number a)
 unfolding first_of
-answer_number (S.Ready s) true reason e = ended_number reason e e.ending
-answer_number (S.Ready s) false reason e = refl
-answer_number (S.Refused why) inside reason e = rw (ne_eqb (number why) 0 (never_zero why))
+answer_number (Ok s) true reason e = ended_number reason e e.ending
+answer_number (Ok s) false reason e = refl
+answer_number (Err why) inside reason e = rw (ne_eqb (number why) 0 (never_zero why))
 
 -- THE EXPLAINER: 1, 2, 3 and 6 are the setup's own, as on the page Numbers of `implicit`; 18 comes behind them; and then the number
 -- of the step that refused, if one did

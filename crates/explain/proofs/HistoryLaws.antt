@@ -1,4 +1,7 @@
 -- The notes after a run are those of its history. Assumes nothing.
+use Rattle.std.specs.Prelude.{Result}
+use Rattle.queue.specs.declared.QueueError.{QueueError}
+use Rattle.queue.specs.Queue.{front_taken}
 use mathlib.Core.Path.{◌≡◌, refl, sym, ap, subst, ◌∙◌}
 use mathlib.Core.Bool.{Bool, true, not}
 use mathlib.Core.List.{List, []}
@@ -11,7 +14,6 @@ use Rattle.base.specs.Places.{latest_number, latest_value}
 use Rattle.image.specs.Cell.{meanings}
 use Rattle.queue.specs.declared.Block.{Block}
 use Rattle.queue.specs.declared.Taken.{Taken}
-use Rattle.queue.specs.declared.Taken.TheVariants as T
 use Rattle.decide.specs.declared.Chosen.{Chosen}
 use Rattle.decide.specs.Damage.{legal_chosen, undamaged, sound, cell_damaged}
 use Rattle.decide.specs.Children.{children_of}
@@ -63,7 +65,7 @@ module _ (column row : ℕ) (w : World) (tape : List ℕ) (next : World) (evals 
       ≡ notes_of its (covers_at its column row) (and_this h)
   step_noted_on in_width in_height h = by_parts (front_of w.state w.ring) bytes how.front_read how.bytes_are
     where
-      by_parts : (t : Taken) (n : ℕ) → t ≡ T.Front block how.last how.head how.used → n ≡ length (children_of its block)
+      by_parts : (t : Result Taken QueueError) (n : ℕ) → t ≡ front_taken block how.last how.head how.used → n ≡ length (children_of its block)
           → noted_front its column row w.cells tape (suc (length h)) t (notes_of its (covers_at its column row) h)
           ≡ notes_of its (covers_at its column row) (past_taking w (take n tape) t h)
       by_parts t n f g =

@@ -1,62 +1,27 @@
 -- Laws of the look at one step's children, as the code makes it. Assumes nothing.
+use Rattle.std.specs.Prelude.{Option}
 use mathlib.Core.Path.{◌≡◌, sym, ap, ◌∙◌}
-use mathlib.Core.Bool.{Bool, true, false, ◌&&◌}
+use mathlib.Core.Bool.{Bool}
 use mathlib.Core.List.{List, ◌∷◌}
 use Prim.Native.Nat.{ℕ, suc, ◌+◌, ◌≤◌, ◌<◌, min}
 use native.Mathlib.Numerals.{add-one}
 use native.Mathlib.Nat.{zero-add}
 use native.Mathlib.Omega.{arith}
-use lib.Dec.{eqb}
-use borrow.Author.Tests.{eq-eqb, ne_eqb}
 use lib.ListN.{length, get_or, drop, drop_of_length-le}
 use lib.Seq.{drop-cons}
-use Rattle.image.specs.declared.PixelRange.{PixelRange}
-use Rattle.image.specs.Range.{rectangle_of}
 use Rattle.queue.specs.declared.Block.{Block}
 use Rattle.decide.specs.declared.Chosen.{Chosen}
 use Rattle.decide.specs.declared.children.Cut.{Cut}
-use Rattle.decide.specs.declared.turn.Found.{Found}
-use Rattle.decide.specs.declared.turn.Found.TheVariants as F
 use Rattle.decide.specs.declared.verdict.Outcome.{Outcome}
 use Rattle.decide.specs.ChildAt.{child_of}
 use Rattle.decide.specs.declared.verdict.Outcome.TheVariants as O
 use Rattle.decide.specs.Turn.{start_of, searched}
 use Rattle.plan.specs.declared.Judged.{Judged}
-use Rattle.plan.specs.declared.Noted.{Noted}
 use Rattle.plan.specs.AtOnce.{children_by}
 use Rattle.plan.proofs.JudgeLaws.{from_length, from_drop}
 use Rattle.explain.specs.declared.look.Look.{Look}
-use Rattle.explain.specs.Reasons.{holds_pixel, covers_at}
+use Rattle.explain.specs.Reasons.{covers_at}
 use Rattle.explain.specs.LookComputed.{unlooked, mark_seen, false_seen, stuck_seen, looked_at, looked_from, looked_by}
-
-pub covers_by : (p : Chosen) (column row : ℕ) (b : Block) (r : PixelRange) → r ≡ rectangle_of b.x b.y p.width p.height
-    → holds_pixel r column row ≡ covers_at p column row b
-unfolding covers_at
-covers_by p column row b r e = ap (λ (s : PixelRange). holds_pixel s column row) e
-
-module _ (l : Look) (i : ℕ) where
-  pub mark_yes : (point : ℕ) (here : Bool) → here ≡ true
-      → record { mark = i; point = point; denied = l.denied; stuck = l.stuck } ≡ mark_seen l i point here
-  mark_yes point here e = rw e
-
-  pub mark_no : (point : ℕ) (here : Bool) → here ≡ false → l ≡ mark_seen l i point here
-  mark_no point here e = rw e
-
-  pub false_yes : (here : Bool) → here && eqb l.denied 0 ≡ true
-      → record { mark = l.mark; point = l.point; denied = i; stuck = l.stuck } ≡ false_seen l i here
-  false_yes here e = rw e
-
-  pub false_no : (here : Bool) → here && eqb l.denied 0 ≡ false → l ≡ false_seen l i here
-  false_no here e = rw e
-
-  pub stuck_yes : l.stuck ≡ 0 → record { mark = l.mark; point = l.point; denied = l.denied; stuck = i } ≡ stuck_seen l i F.Nothing
-  stuck_yes e = rw (eq-eqb l.stuck 0 e)
-
-  pub stuck_no : ¬ (l.stuck ≡ 0) → l ≡ stuck_seen l i F.Nothing
-  stuck_no e = rw (ne_eqb l.stuck 0 e)
-
-pub found_one : (l : Look) (i : ℕ) (f : Found) (d : ℕ) → f ≡ F.At d → l ≡ stuck_seen l i f
-found_one l i f d e = rw e
 
 -- a child, by its outcome
 module _ (p : Chosen) (column row start : ℕ) (l : Look) (i : ℕ) (c : Block) (o : Outcome) where
@@ -75,7 +40,7 @@ module _ (p : Chosen) (column row start : ℕ) (l : Look) (i : ℕ) (c : Block) 
   unfolding looked_at
   at_point k e here h r f = rw (e, sym h) f
 
-  pub at_incomplete : (n : ℕ) → o ≡ O.Incomplete n → (d : Found) → d ≡ searched p c start → (r : Look) → r ≡ stuck_seen l i d → r ≡ seen
+  pub at_incomplete : (n : ℕ) → o ≡ O.Incomplete n → (d : Option ℕ) → d ≡ searched p c start → (r : Look) → r ≡ stuck_seen l i d → r ≡ seen
   unfolding looked_at
   at_incomplete n e d h r f = rw (e, sym h) f
 
@@ -86,13 +51,13 @@ unfolding looked_by
 by_start p here b k j start e = ap (λ (s : ℕ). looked_from p here s unlooked 1 (children_by k b) j.at) e
 
 -- all children: what looking from child i on makes
-module _ (p : Chosen) (here : Block → Bool) (b : Block) (k : Cut) (es : List Noted) (start : ℕ) where
+module _ (p : Chosen) (here : Block → Bool) (b : Block) (k : Cut) (es : List Outcome) (start : ℕ) where
   abbrev pub looked_on : Look → ℕ → Look
   looked_on l i = looked_from p here start l (suc i) (drop i (children_by k b)) (drop i es)
 
   module _ (four : length es ≡ 4) (l : Look) (i n : ℕ) (least : n ≡ min k.count 4) where
-    pub look_on : (d : Noted) (j : ℕ) (c : Block) (l' : Look) → i < n → j ≡ i + 1 → c ≡ child_of k b i
-        → l' ≡ looked_at p here start l j c (get_or es i d).outcome → looked_on l' (i + 1) ≡ looked_on l i
+    pub look_on : (d : Outcome) (j : ℕ) (c : Block) (l' : Look) → i < n → j ≡ i + 1 → c ≡ child_of k b i
+        → l' ≡ looked_at p here start l j c (get_or es i d) → looked_on l' (i + 1) ≡ looked_on l i
     unfolding looked_from
     look_on d j c l' h g f e =
         let m : drop i (children_by k b) ≡ child_of k b i ∷ drop (suc i) (children_by k b) =

@@ -4,7 +4,6 @@ use mathlib.Core.Bool.{Bool, true, false, not}
 use mathlib.Core.List.{List}
 use Prim.Native.Nat.{ℕ}
 use native.Mathlib.Omega.{arith}
-use borrow.Author.Tests.{eq-eqb, ne_eqb}
 use Rattle.base.proofs.Test.{cond_yes, cond_no}
 use Rattle.queue.specs.declared.Block.{Block}
 use Rattle.decide.specs.declared.Chosen.{Chosen}
@@ -17,23 +16,22 @@ use Rattle.explain.specs.declared.noting.Notes.{Notes}
 use Rattle.explain.specs.declared.reason.Moment.{Moment}
 use Rattle.explain.specs.Reasons.{covers_at, moment_at}
 use Rattle.explain.specs.LookComputed.{looked_by}
-use Rattle.explain.specs.NotesComputed.{later_moment, with_look, noted_block}
+use Rattle.explain.specs.NotesComputed.{no_notes, with_look, noted_block}
 
-pub later_none : (step child : ℕ) (before : Moment) → child ≡ 0 → before ≡ later_moment step child before
-later_none step child before e = rw (eq-eqb child 0 e)
+-- nothing is noted yet
+pub no_notes_by : (k : Notes) → ((k.mark.step ≡ 0) × (k.mark.child ≡ 0))
+    × ((k.point ≡ 0) × (((k.denial.step ≡ 0) × (k.denial.child ≡ 0)) × ((k.up.step ≡ 0) × (k.up.child ≡ 0)))) → k ≡ no_notes
+no_notes_by k e = by_parts k.mark k.point k.denial k.up (moment e.0) e.1.0 (moment e.1.1.0) (moment e.1.1.1)
+  where
+    zero : (step child : ℕ) → step ≡ 0 → child ≡ 0 → moment_at step child ≡ moment_at 0 0
+    zero step child f g = rw (f, g)
 
-pub later_some : (step child : ℕ) (before : Moment) → ¬ (child ≡ 0) → moment_at step child ≡ later_moment step child before
-later_some step child before e = rw (ne_eqb child 0 e)
+    moment : {m : Moment} → (m.step ≡ 0) × (m.child ≡ 0) → m ≡ moment_at 0 0
+    moment {m} f = zero m.step m.child f.0 f.1
 
-module _ (k : Notes) (step : ℕ) (l : Look) (mark up : Moment)
-    (m : mark ≡ later_moment step l.mark k.mark) (u : up ≡ later_moment step l.stuck k.up) where
-  pub look_added_none : l.mark ≡ 0
-      → record { mark = mark; point = k.point; denial = moment_at step l.denied; up = up } ≡ with_look k step l
-  look_added_none e = rw (m, u, eq-eqb l.mark 0 e)
-
-  pub look_added : ¬ (l.mark ≡ 0)
-      → record { mark = mark; point = l.point; denial = moment_at step l.denied; up = up } ≡ with_look k step l
-  look_added e = rw (m, u, ne_eqb l.mark 0 e)
+    by_parts : (mark : Moment) (point : ℕ) (denial up : Moment) → mark ≡ moment_at 0 0 → point ≡ 0 → denial ≡ moment_at 0 0 → up ≡ moment_at 0 0
+        → record { mark = mark; point = point; denial = denial; up = up } ≡ no_notes
+    by_parts mark point denial up f g h i = rw (f, g, h, i)
 
 -- a block that is read, by the code's tests
 module _ (p : Chosen) (column row : ℕ) (cells tape : List ℕ) (step : ℕ) (b : Block) (k : Notes)

@@ -1,17 +1,17 @@
 -- The notes are the moments that the history has: step by step, and so after a whole run. Assumes nothing.
 use mathlib.Core.Path.{◌≡◌, refl, sym, ap₂, ◌∙◌}
-use mathlib.Core.Bool.{Bool, true, false, cond, not, ◌&&◌, ◌||◌}
+use mathlib.Core.Bool.{Bool, true, false, cond, ◌&&◌, ◌||◌}
 use mathlib.Core.List.{List, [], ◌∷◌}
 use Prim.Native.Nat.{ℕ, suc, ◌-◌, ◌*◌, ◌≤◌, ◌<◌}
 use native.Mathlib.Omega.{arith}
-use lib.Dec.{eqb}
 use lib.ListN.{length, take}
-use borrow.Author.Tests.{eq-eqb, ne_eqb}
+use Rattle.std.specs.Prelude.{Option, Some, None}
+use Rattle.std.specs.Option.{unwrap_or}
 use Rattle.base.specs.Lists.{Every}
 use Rattle.base.specs.Places.{any_of, first_from, last_from, last_value, latest_number, latest_value}
-use Rattle.base.proofs.Test.{cases, cond_yes, cond_no, ≡→T}
+use Rattle.base.proofs.Test.{cases, cond_yes, cond_no}
 use Rattle.base.proofs.ListLaws.{every_also}
-use Rattle.base.proofs.PlacesNamed.{first_none, last_none, first_some, last_some}
+use Rattle.base.proofs.PlacesNamed.{first_none}
 use Rattle.image.specs.Cell.{meanings}
 use Rattle.image.specs.Range.{in_stretch, holds_cell, rectangle_of}
 use Rattle.image.proofs.RangeLaws.{cell_row, cell_column, rectangle_covers}
@@ -25,28 +25,21 @@ use Rattle.plan.specs.Plan.{outcomes}
 use Rattle.plan.proofs.CoverLaws.{covers}
 use Rattle.plan.proofs.PlaceLaws.{Lies, lies_narrower, children_lie}
 use Rattle.explain.specs.declared.look.Look.{Look}
+use Rattle.explain.specs.declared.look.Mark.{Mark}
 use Rattle.explain.specs.declared.noting.Notes.{Notes}
 use Rattle.explain.specs.History.{Answered, answered_by, PastStep}
 use Rattle.explain.specs.Reasons.{covers_at, point_of, moment_at, marks_here, denies_here, finds_none}
 use Rattle.explain.specs.Reasons.{marks_in, takes_here, gives_up_here, last_mark, last_point, last_denial, last_giving_up}
-use Rattle.explain.specs.NotesComputed.{with_look, noted_block}
-use Rattle.explain.proofs.LookMeans.{LookMeans, look_means}
+use Rattle.explain.specs.NotesComputed.{later_moment, marked_child, marked_point, with_look, noted_block}
+use Rattle.explain.proofs.LookMeans.{named, first_named, LookMeans, look_means}
 
 -- the moments of a history, as they are noted
 abbrev pub notes_of : Chosen → (Block → Bool) → List PastStep → Notes
 notes_of p here h = record { mark = last_mark p here h; point = last_point p here h; denial = last_denial p here h; up = last_giving_up p here h }
 
--- A PLACE is 0 exactly if there is none
-module _ {A : Type 0} (f : A → Bool) (l : List A) where
-  first_zero : eqb (first_from f 1 l) 0 ≡ not (any_of f l)
-  first_zero = cases (any_of f l)
-      (λ e. (let (k, o, g) = first_some f l 1 (≡→T e) in rw e (ne_eqb (first_from f 1 l) 0 (λ z. omega (arith, g, z)))))
-      (λ e. rw e (eq-eqb (first_from f 1 l) 0 (first_none f 1 l e)))
-
-  last_zero : eqb (last_from f 0 1 l) 0 ≡ not (any_of f l)
-  last_zero = cases (any_of f l)
-      (λ e. (let (k, o, g) = last_some f l 0 1 (≡→T e) in rw e (ne_eqb (last_from f 0 1 l) 0 (λ z. omega (arith, g, z)))))
-      (λ e. rw e (eq-eqb (last_from f 0 1 l) 0 (last_none f 0 1 l e)))
+-- a place, or 0 where there is none
+first_or_none : {A : Type 0} (f : A → Bool) (l : List A) → unwrap_or (first_named f 1 l) 0 ≡ first_from f 1 l
+first_or_none f l = cases (any_of f l) (λ e. rw e) (λ e. rw e (sym (first_none f 1 l e)))
 
 -- A STEP MORE
 
@@ -67,21 +60,22 @@ module _ (p : Chosen) (here : Block → Bool) (e : PastStep) (h : List PastStep)
   abbrev first_stuck : PastStep → ℕ
   first_stuck e = first_from (finds_none p e) 1 e.answers
 
+  abbrev marking : Bool → Option Mark
+  marking s = cond s (Some (record { child = last_marking e; point = point_marking })) None
+
   -- one that took a covering block, by the look at its children
   step_noted : here e.block ≡ true → (r : Look) → LookMeans p here r e → with_look (notes_of p here h) number r ≡ notes_of p here (e ∷ h)
   unfolding last_mark last_point last_denial last_giving_up latest_number latest_value marks_in takes_here gives_up_here
   step_noted covered r m =
-      let marked = last_zero (marks_here p here) e.answers in
-      let stuck = first_zero (finds_none p e) e.answers in
-      rw (m.mark, m.point, m.denied, m.stuck, marked, stuck, covered)
+      rw (m.mark, m.denied, m.stuck, first_or_none (denies_here p here) e.answers, covered)
       (by_tests (any_of (marks_here p here) e.answers) (any_of (finds_none p e) e.answers))
     where
       by_tests : (s t : Bool) → ◌≡◌ {A = Notes}
           (record {
-            mark = cond (not s) (last_mark p here h) (moment_at number (last_marking e));
-            point = cond (not s) (last_point p here h) point_marking;
+            mark = later_moment number (marked_child (marking s)) (last_mark p here h);
+            point = marked_point (marking s) (last_point p here h);
             denial = moment_at number first_denied;
-            up = cond (not t) (last_giving_up p here h) (moment_at number (first_stuck e));
+            up = later_moment number (named t (first_stuck e)) (last_giving_up p here h);
           })
           (record {
             mark = moment_at (cond s number (latest_number (marks_in p here) h))

@@ -1,10 +1,8 @@
 -- The answer by the notes: what private functions compute. The laws say that it is the explanation.
-use Rattle.std.specs.Prelude.{◌≡◌, Bool, true, false, cond, List, [], ℕ}
+use Rattle.std.specs.Prelude.{◌≡◌, Bool, true, false, cond, List, [], ℕ, Result, Ok, Err}
 use Rattle.image.specs.declared.Reading.{Reading}
 use Rattle.image.specs.declared.Reading.TheVariants as R
 use Rattle.image.specs.Cell.{Cell, cell_code, is_given_up, reading}
-use Rattle.implicit.specs.declared.state.SetupAnswer.{SetupAnswer}
-use Rattle.implicit.specs.declared.state.SetupAnswer.TheVariants as S
 use Rattle.implicit.specs.declared.state.Ending.{Ending}
 use Rattle.implicit.specs.declared.state.Ending.TheVariants as E
 use Rattle.implicit.specs.declared.state.State.{State}
@@ -20,11 +18,12 @@ use Rattle.implicit.specs.Run.{run_from}
 use Rattle.explain.specs.History.{history_from}
 use Rattle.explain.specs.Reasons.{waiting_for}
 use Rattle.explain.specs.Explained.{reason_after, explained_by}
+use Rattle.refusal.specs.declared.Refusal.{Refusal}
 
 -- does a setup begin?
-abbrev pub is_ready : SetupAnswer → Bool
-is_ready (S.Ready s) = true
-is_ready (S.Refused why) = false
+abbrev pub is_ready : Result State Refusal → Bool
+is_ready (Ok s) = true
+is_ready (Err why) = false
 
 -- a pixel that is Uncertain is given up, or waits for the block of this number
 abbrev pub uncertain_reason : State → List ℕ → ℕ → Bool → Moment → Reason

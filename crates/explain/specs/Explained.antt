@@ -1,15 +1,15 @@
 -- Document 02, (v), the explainer: "Given a setup, its tape, a number of steps and a pixel, say the reason." Its refusals are the
 -- setup's own, 1, 2, 3 and 6, and then 18; until then nothing has been written. It repeats the steps as a run does, and a step that
 -- refuses on the way gives its number.
-use Rattle.std.specs.Prelude.{Bool, ◌&&◌, List, [], ℕ, ltb, length}
+use Rattle.std.specs.Prelude.{Bool, ◌&&◌, List, [], ℕ, ltb, length, Result, Ok, Err}
 use Rattle.refusal.specs.Number.{number, refused_unless}
+use Rattle.refusal.specs.declared.Refusal.{Refusal}
 use Rattle.refusal.specs.declared.Refusal.TheVariants as R
 use Rattle.decide.specs.declared.Chosen.{Chosen}
-use Rattle.implicit.specs.declared.state.SetupAnswer.{SetupAnswer}
-use Rattle.implicit.specs.declared.state.SetupAnswer.TheVariants as S
 use Rattle.implicit.specs.declared.state.Ending.{Ending}
 use Rattle.implicit.specs.declared.state.Ending.TheVariants as E
 use Rattle.implicit.specs.declared.state.Ranges.{Ranges}
+use Rattle.implicit.specs.declared.state.State.{State}
 use Rattle.implicit.specs.Setup.{setup_answer, start_record, start_ring, start_cells}
 use Rattle.implicit.specs.Step.{World, world_of}
 use Rattle.implicit.specs.Run.{RunEnd, run_from}
@@ -24,11 +24,11 @@ unfoldable pub pixel_inside : Chosen → ℕ → ℕ → Bool
 pixel_inside p column row = ltb column p.width && ltb row p.height
 
 -- "18 for a pixel outside the picture, after the setup's own": what the setup answers, and then that
-abbrev pub and_then_pixel : SetupAnswer → Bool → SetupAnswer
-and_then_pixel (S.Ready s) inside = refused_unless (S.Refused R.Pixel) inside (S.Ready s)
-and_then_pixel (S.Refused why) inside = S.Refused why
+abbrev pub and_then_pixel : Result State Refusal → Bool → Result State Refusal
+and_then_pixel (Ok s) inside = refused_unless (Err R.Pixel) inside (Ok s)
+and_then_pixel (Err why) inside = Err why
 
-unfoldable pub beginning : Chosen → Ranges → ℕ → ℕ → ℕ → ℕ → SetupAnswer
+unfoldable pub beginning : Chosen → Ranges → ℕ → ℕ → ℕ → ℕ → Result State Refusal
 beginning p r len count column row = and_then_pixel (setup_answer p r len count) (pixel_inside p column row)
 
 -- what the setup leaves
@@ -47,24 +47,24 @@ explained_by reason e E.Limit = X.Of reason e.world.state e.steps e.evaluations 
 explained_by reason e E.More = X.Of reason e.world.state e.steps e.evaluations e.tape E.More
 
 -- where nothing was begun the refusal's number, and nothing is written
-abbrev pub unless_refused : SetupAnswer → Explanation → Explanation
-unless_refused (S.Ready s) rest = rest
-unless_refused (S.Refused why) rest = X.Refused why
+abbrev pub unless_refused : Result State Refusal → Explanation → Result Explanation Refusal
+unless_refused (Ok s) rest = Ok rest
+unless_refused (Err why) rest = Err why
 
-abbrev pub if_ready : SetupAnswer → List ℕ → List ℕ → List ℕ
-if_ready (S.Ready s) after before = after
-if_ready (S.Refused why) after before = before
+abbrev pub if_ready : Result State Refusal → List ℕ → List ℕ → List ℕ
+if_ready (Ok s) after before = after
+if_ready (Err why) after before = before
 
 module _ (p : Chosen) (r : Ranges) (ring cells tape : List ℕ) (steps column row : ℕ) where
   -- the run of those steps
   abbrev pub run_repeated : RunEnd
   run_repeated = run_from steps (world_begun p r ring cells) tape
 
-  abbrev pub whether_begun : SetupAnswer
+  abbrev pub whether_begun : Result State Refusal
   whether_begun = beginning p r (length ring) (length cells) column row
 
   -- THE EXPLANATION
-  unfoldable pub explained : Explanation
+  unfoldable pub explained : Result Explanation Refusal
   explained =
       unless_refused whether_begun
       (explained_by (reason_after p column row run_repeated (history_from steps (world_begun p r ring cells) tape []))
@@ -78,7 +78,7 @@ module _ (p : Chosen) (r : Ranges) (ring cells tape : List ℕ) (steps column ro
   cells_explained = if_ready whether_begun run_repeated.world.cells cells
 
 -- the number of an answer: 0 where a reason is given, else that of the setup's refusal, 18, or that of the step that refused
-abbrev pub explanation_number : Explanation → ℕ
-explanation_number (X.Of reason s steps evals bytes end) = 0
-explanation_number (X.Stopped why s steps evals bytes) = number why
-explanation_number (X.Refused why) = number why
+abbrev pub explanation_number : Result Explanation Refusal → ℕ
+explanation_number (Ok (X.Of reason s steps evals bytes end)) = 0
+explanation_number (Ok (X.Stopped why s steps evals bytes)) = number why
+explanation_number (Err why) = number why

@@ -1,10 +1,11 @@
 -- Document 02, (v), what happened: the finished steps of a run, the last one first, each by the block that it took and the
 -- children of that block, each child with its verdict byte and with its outcome, which is the one of the step's own definition.
 -- Nothing here knows how the explainer works.
+use Rattle.std.specs.Prelude.{Result, Ok, Err}
+use Rattle.queue.specs.declared.QueueError.{QueueError}
 use Rattle.std.specs.Prelude.{cond, List, [], ◌∷◌, ℕ, zero, suc, take, drop}
 use Rattle.queue.specs.declared.Block.{Block}
 use Rattle.queue.specs.declared.Taken.{Taken}
-use Rattle.queue.specs.declared.Taken.TheVariants as T
 use Rattle.decide.specs.declared.verdict.Outcome.{Outcome}
 use Rattle.decide.specs.Children.{children_of}
 use Rattle.implicit.specs.Record.{queue_empty}
@@ -34,10 +35,9 @@ abbrev pub past_step : World → List ℕ → Block → PastStep
 past_step w vs b = record { block = b; answers = answered_by (children_of w.state.chosen b) vs (outcomes_of w b vs) }
 
 -- the steps so far, and then that one on the front block, as it is read from the ring; a step that is finished could read it
-abbrev pub past_taking : World → List ℕ → Taken → List PastStep → List PastStep
-past_taking w vs T.Damaged h = h
-past_taking w vs T.Outside h = h
-past_taking w vs (T.Front b last head used) h = past_step w vs b ∷ h
+abbrev pub past_taking : World → List ℕ → Result Taken QueueError → List PastStep → List PastStep
+past_taking w vs (Err why) h = h
+past_taking w vs (Ok t) h = past_step w vs t.block ∷ h
 
 -- how the history goes on from a step's end: a refused step is not in it
 abbrev pub past_on : World → List ℕ → StepEnd → List PastStep → (World → ℕ → List PastStep → List PastStep) → List PastStep

@@ -1,13 +1,16 @@
 -- The notes kept of the steps so far, and what one step more adds: what private functions compute. The laws say that they are the
 -- moments of the page Reasons.
-use Rattle.std.specs.Prelude.{cond, List, ℕ, eqb}
+use Rattle.std.specs.Prelude.{Result, Ok, Err}
+use Rattle.queue.specs.declared.QueueError.{QueueError}
+use Rattle.std.specs.Prelude.{cond, List, ℕ, Option, Some, None}
+use Rattle.std.specs.Option.{unwrap_or}
 use Rattle.queue.specs.declared.Block.{Block}
 use Rattle.queue.specs.declared.Taken.{Taken}
-use Rattle.queue.specs.declared.Taken.TheVariants as T
 use Rattle.decide.specs.declared.Chosen.{Chosen}
 use Rattle.decide.specs.ChildAt.{cut_of}
 use Rattle.plan.specs.AtOnce.{judged_of}
 use Rattle.explain.specs.declared.look.Look.{Look}
+use Rattle.explain.specs.declared.look.Mark.{Mark}
 use Rattle.explain.specs.declared.noting.Notes.{Notes}
 use Rattle.explain.specs.declared.reason.Moment.{Moment}
 use Rattle.explain.specs.Reasons.{covers_at, moment_at}
@@ -18,15 +21,25 @@ abbrev pub no_notes : Notes
 no_notes = record { mark = moment_at 0 0; point = 0; denial = moment_at 0 0; up = moment_at 0 0 }
 
 -- this step with a child's place in it, if there is one, else the moment before
-abbrev pub later_moment : ℕ → ℕ → Moment → Moment
-later_moment step child before = cond (eqb child 0) before (moment_at step child)
+abbrev pub later_moment : ℕ → Option ℕ → Moment → Moment
+later_moment step None before = before
+later_moment step (Some child) before = moment_at step child
+
+-- the place in this step of a child that marks the pixel, and the sample point's
+abbrev pub marked_child : Option Mark → Option ℕ
+marked_child None = None
+marked_child (Some m) = Some m.child
+
+abbrev pub marked_point : Option Mark → ℕ → ℕ
+marked_point None before = before
+marked_point (Some m) before = m.point
 
 -- the notes with a step that took a covering block
 abbrev pub with_look : Notes → ℕ → Look → Notes
 with_look k step l = record {
-  mark = later_moment step l.mark k.mark;
-  point = cond (eqb l.mark 0) k.point l.point;
-  denial = moment_at step l.denied;
+  mark = later_moment step (marked_child l.mark) k.mark;
+  point = marked_point l.mark k.point;
+  denial = moment_at step (unwrap_or l.denied 0);
   up = later_moment step l.stuck k.up;
 }
 
@@ -37,7 +50,6 @@ noted_block p column row cells tape step b k =
     (with_look k step (looked_by p (covers_at p column row) b (cut_of p b) (judged_of p b (cut_of p b) tape cells))) k
 
 -- and for what is read at the front
-abbrev pub noted_front : Chosen → ℕ → ℕ → List ℕ → List ℕ → ℕ → Taken → Notes → Notes
-noted_front p column row cells tape step T.Damaged k = k
-noted_front p column row cells tape step T.Outside k = k
-noted_front p column row cells tape step (T.Front b last head used) k = noted_block p column row cells tape step b k
+abbrev pub noted_front : Chosen → ℕ → ℕ → List ℕ → List ℕ → ℕ → Result Taken QueueError → Notes → Notes
+noted_front p column row cells tape step (Err why) k = k
+noted_front p column row cells tape step (Ok t) k = noted_block p column row cells tape step t.block k

@@ -1,5 +1,7 @@
 -- Document 02, (v), the reason, by what the pixel reads and by the history of the finished steps. Steps and children count from 1,
 -- children over all of their step, the skipped ones too; 0 is none. `here` says which blocks cover the pixel.
+use Rattle.std.specs.Prelude.{Result, Ok, Err}
+use Rattle.queue.specs.declared.QueueError.{QueueError}
 use Rattle.std.specs.Prelude.{Bool, true, false, cond, ◌&&◌, List, map, ℕ, zero, suc, ◌-◌, ◌*◌, ◌+◌, get_or}
 use Rattle.base.specs.Places.{any_of, first_place, last_place, last_value, latest_number, latest_value}
 use Rattle.image.specs.declared.PixelRange.{PixelRange}
@@ -9,7 +11,6 @@ use Rattle.image.specs.Cell.{Cell, Named, cell_code, is_given_up, reading, meani
 use Rattle.image.specs.Range.{in_stretch, rectangle_of}
 use Rattle.queue.specs.declared.Block.{Block}
 use Rattle.queue.specs.declared.Taken.{Taken}
-use Rattle.queue.specs.declared.Taken.TheVariants as T
 use Rattle.queue.specs.Answers.{blank_block, taken_block}
 use Rattle.queue.specs.Queue.{taken}
 use Rattle.decide.specs.declared.Chosen.{Chosen}
@@ -108,11 +109,10 @@ module _ (p : Chosen) (here : Block → Bool) where
 -- ---- the reason
 
 -- the block that comes out of the queue once so many before it were taken, where this is what is taken first
-unfoldable pub block_behind : ℕ → List ℕ → ℕ → Taken → Block
+unfoldable pub block_behind : ℕ → List ℕ → ℕ → Result Taken QueueError → Block
 block_behind zero ring set t = taken_block t
-block_behind (suc d) ring set T.Damaged = blank_block
-block_behind (suc d) ring set T.Outside = blank_block
-block_behind (suc d) ring set (T.Front b last head used) = block_behind d ring set (taken ring head used set last)
+block_behind (suc d) ring set (Err why) = blank_block
+block_behind (suc d) ring set (Ok t) = block_behind d ring set (taken ring t.head t.used set t.last)
 
 -- "the last queued block that covers it and how many stand before it": it is the one of this number, which the pixel's cell names
 unfoldable pub waiting_for : State → List ℕ → ℕ → Reason

@@ -1,8 +1,8 @@
 -- The repetition, step by step: what private functions compute. The laws say that what is left to do, with what was counted and
 -- noted, is the run with its notes.
-use Rattle.std.specs.Prelude.{◌≡◌, true, false, cond, List, ℕ, zero, suc, ◌+◌, leb, drop}
+use Rattle.std.specs.Prelude.{◌≡◌, true, false, cond, List, ℕ, zero, suc, ◌+◌, leb, drop, Option, Some, None, Result, Ok, Err}
+use Rattle.queue.specs.declared.QueueError.{QueueError}
 use Rattle.queue.specs.declared.Taken.{Taken}
-use Rattle.queue.specs.declared.Taken.TheVariants as T
 use Rattle.queue.specs.Queue.{taken}
 use Rattle.implicit.specs.declared.state.State.{State}
 use Rattle.implicit.specs.declared.state.Ending.{Ending}
@@ -11,34 +11,29 @@ use Rattle.implicit.specs.Record.{queue_empty}
 use Rattle.implicit.specs.Listing.{front_of}
 use Rattle.implicit.specs.Step.{World, world_of, StepEnd, refused, finished, tape_step_of, world_after}
 use Rattle.implicit.specs.Run.{RunEnd, empty_ending}
-use Rattle.implicit.specs.RunComputed.{Bounded, RunTo}
+use Rattle.implicit.specs.RunComputed.{HowFar, Bounded, RunTo}
 use Rattle.explain.specs.declared.noting.Notes.{Notes}
 use Rattle.explain.specs.declared.repeating.Repeated.{Repeated}
 use Rattle.explain.specs.NotesComputed.{noted_front}
 
+-- how far the repetition is, as a run's progress: it goes on, or it ended so
+abbrev pub progress_of : Repeated → Option Ending → HowFar
+progress_of p None =
+    record { state = p.state; steps = p.steps; evaluations = p.evaluations; tape = p.tape; ending = E.More; going = true }
+progress_of p (Some e) =
+    record { state = p.state; steps = p.steps; evaluations = p.evaluations; tape = p.tape; ending = e; going = false }
+
 -- what was counted stays small, as a run's; and the repetition is as far as a run that ends so
 abbrev pub BoundedBy : ℕ → List ℕ → Repeated → Type 0
-BoundedBy budget tape p =
-    Bounded budget tape
-    record { state = p.state; steps = p.steps; evaluations = p.evaluations; tape = p.tape; ending = p.ending; going = p.going }
+BoundedBy budget tape p = Bounded budget tape (progress_of p None)
 
-abbrev pub RepeatedTo : RunEnd → Repeated → List ℕ → List ℕ → Type 0
-RepeatedTo e p ring cells =
-    RunTo e
-    record { state = p.state; steps = p.steps; evaluations = p.evaluations; tape = p.tape; ending = p.ending; going = p.going }
-    ring cells
+abbrev pub RepeatedTo : RunEnd → Repeated → Ending → List ℕ → List ℕ → Type 0
+RepeatedTo e p ending ring cells = RunTo e (progress_of p (Some ending)) ring cells
 
--- the repetition ends here
-abbrev pub repeated_halt : Repeated → Ending → Repeated
-repeated_halt p e = record {
-  state = p.state;
-  steps = p.steps;
-  evaluations = p.evaluations;
-  tape = p.tape;
-  notes = p.notes;
-  ending = e;
-  going = false;
-}
+-- where it is behind a pass, which went on or ended it there
+abbrev pub passed_to : Repeated → Result Repeated Ending → HowFar
+passed_to p (Ok q) = progress_of q None
+passed_to p (Err e) = progress_of p (Some e)
 
 -- one step more is finished
 abbrev pub repeated_step : Repeated → State → ℕ → ℕ → Notes → Repeated
@@ -48,8 +43,6 @@ repeated_step p s evals bytes k = record {
   evaluations = p.evaluations + evals;
   tape = p.tape + bytes;
   notes = k;
-  ending = p.ending;
-  going = true;
 }
 
 -- the notes with the step of a number on a world
@@ -78,31 +71,30 @@ abbrev pub notes_next : ℕ → ℕ → Repeated → World → List ℕ → Note
 notes_next column row p w tape = noted_on column row w (drop p.tape tape) (p.steps + 1) p.notes
 
 -- once that step was tried
-abbrev pub repeated_after : Repeated → StepEnd → Notes → Repeated
-repeated_after p (refused why) k = repeated_halt p (E.Stop why)
-repeated_after p (finished next evals bytes) k = repeated_step p next.state evals bytes k
+abbrev pub repeated_after : Repeated → StepEnd → Notes → Result Repeated Ending
+repeated_after p (refused why) k = Err (E.Stop why)
+repeated_after p (finished next evals bytes) k = Ok (repeated_step p next.state evals bytes k)
 
-abbrev pub RepeatTried : ℕ → ℕ → Repeated → World → List ℕ → Repeated → List ℕ → List ℕ → Type 0
+abbrev pub RepeatTried : ℕ → ℕ → Repeated → World → List ℕ → Result Repeated Ending → List ℕ → List ℕ → Type 0
 RepeatTried column row p w tape r ring cells =
     (r ≡ repeated_after p (next_on p w tape) (notes_next column row p w tape))
-    × (world_of r.state ring cells ≡ world_after w (next_on p w tape))
+    × (world_of (passed_to p r).state ring cells ≡ world_after w (next_on p w tape))
 
 -- and once it went on: the queue is empty, the budget is spent, or the next step
-unfoldable pub repeated_once : ℕ → Repeated → List ℕ → StepEnd → Notes → Repeated
+unfoldable pub repeated_once : ℕ → Repeated → List ℕ → StepEnd → Notes → Result Repeated Ending
 repeated_once budget p cells next k =
-    cond (queue_empty p.state) (repeated_halt p (empty_ending p.state.chosen cells))
-    (cond (leb budget p.steps) (repeated_halt p E.More) (repeated_after p next k))
+    cond (queue_empty p.state) (Err (empty_ending p.state.chosen cells))
+    (cond (leb budget p.steps) (Err E.More) (repeated_after p next k))
 
 unfoldable pub repeated_world : ℕ → Repeated → World → StepEnd → World
 repeated_world budget p w next = cond (queue_empty p.state) w (cond (leb budget p.steps) w (world_after w next))
 
-abbrev pub RepeatGone : ℕ → ℕ → ℕ → Repeated → World → List ℕ → Repeated → List ℕ → List ℕ → Type 0
+abbrev pub RepeatGone : ℕ → ℕ → ℕ → Repeated → World → List ℕ → Result Repeated Ending → List ℕ → List ℕ → Type 0
 RepeatGone budget column row p w tape r ring cells =
     (r ≡ repeated_once budget p w.cells (next_on p w tape) (notes_next column row p w tape))
-    × (world_of r.state ring cells ≡ repeated_world budget p w (next_on p w tape))
+    × (world_of (passed_to p r).state ring cells ≡ repeated_world budget p w (next_on p w tape))
 
 -- what is taken after this
-abbrev pub taken_behind : List ℕ → ℕ → Taken → Taken
-taken_behind ring set T.Damaged = T.Damaged
-taken_behind ring set T.Outside = T.Outside
-taken_behind ring set (T.Front b last head used) = taken ring head used set last
+abbrev pub taken_behind : List ℕ → ℕ → Result Taken QueueError → Result Taken QueueError
+taken_behind ring set (Err why) = Err why
+taken_behind ring set (Ok t) = taken ring t.head t.used set t.last

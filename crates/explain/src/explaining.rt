@@ -8,12 +8,13 @@ ghost use Rattle.explain.specs.Explained.{pixel_inside, explained, ring_explaine
 ghost use Rattle.explain.specs.ExplainComputed.{is_ready, uncertain_reason, reason_noted, explanation_of, ExplainsFrom};
 
 use crate::noting::Notes;
+use crate::pixel::Pixel;
 use crate::reason::{Explanation, Moment, Reason};
 use crate::repeating::{Repeated, repeat_steps};
 use crate::walking::block_behind;
 use decide::Chosen;
 use image::{CellKind, Reading};
-use implicit::{Ending, NeededAnswer, Ranges, SetupAnswer, State};
+use implicit::{Ending, Ranges, State};
 use refusal::Refusal;
 
 // Why the pixel in this column, and in this row from the top, reads what it reads after so many steps of this setup on its tape. The steps are repeated in the
@@ -27,7 +28,7 @@ pub fn explain(
     steps: u32,
     column: u32,
     row: u32,
-) -> Explanation
+) -> Result<Explanation, Refusal>
     ensures value { result ≡ explained (cleared chosen) ranges ring.old cells.old tape.now steps column row }
     ensures ring_after { ring.new ≡ ring_explained (cleared chosen) ranges ring.old cells.old tape.now
         steps column row }
@@ -43,13 +44,12 @@ pub fn explain(
         reserved2: 0,
         reserved3: 0,
     };
-    if is_pixel_refused(p, ranges, ring.len(), cells.len(), column, row) {
-        return Explanation::Refused(Refusal::Pixel);
+    let pixel = Pixel { column, row };
+    if is_pixel_refused(p, ranges, ring.len(), cells.len(), pixel) {
+        return Err(Refusal::Pixel);
     }
-    match implicit::setup(p, ranges, ring, cells) {
-        SetupAnswer::Ready(s) => explain_from(s, ring, cells, tape, steps, column, row),
-        SetupAnswer::Refused(why) => Explanation::Refused(why),
-    }
+    let s = implicit::setup(p, ranges, ring, cells)?;
+    Ok(explain_from(s, ring, cells, tape, steps, pixel))
 }
 
 // The steps from a setup on, and the reason then.
@@ -59,34 +59,24 @@ fn explain_from(
     cells: &mut [u64],
     tape: &[u8],
     steps: u32,
-    column: u32,
-    row: u32,
+    pixel: Pixel,
 ) -> Explanation
-    requires { (column < s.chosen.width) × (row < s.chosen.height) × (leb (pixel_count s.chosen) (length cells.old) ≡ true) }
-    ensures { ExplainsFrom steps column row (world_of s ring.old cells.old) tape.now result
+    requires { (pixel.column < s.chosen.width) × (pixel.row < s.chosen.height) × (leb (pixel_count s.chosen) (length cells.old) ≡ true) }
+    ensures { ExplainsFrom steps pixel.column pixel.row (world_of s ring.old cells.old) tape.now result
         ring.new cells.new }
 {
-    let p = repeat_steps(s, ring, cells, tape, steps, column, row);
+    let (p, ending) = repeat_steps(s, ring, cells, tape, steps, pixel);
     let chosen = s.chosen;
-    let at = row as usize * chosen.width as usize + column as usize;
-    answer(p, reason_of(p.state, ring, cells, at, p.notes))
+    let at = pixel.row as usize * chosen.width as usize + pixel.column as usize;
+    let reason = reason_of(p.state, ring, cells, at, p.notes);
+    answer(p, ending, reason)
 }
 
 // Whether 18 applies: the pixel lies outside, and a setup would begin.
-fn is_pixel_refused(
-    p: Chosen,
-    ranges: Ranges,
-    len: usize,
-    count: usize,
-    column: u32,
-    row: u32,
-) -> bool
-    ensures { result ≡ (not (pixel_inside p column row) && is_ready (setup_answer p ranges len count)) }
+fn is_pixel_refused(p: Chosen, ranges: Ranges, len: usize, count: usize, pixel: Pixel) -> bool
+    ensures { result ≡ (not (pixel_inside p pixel.column pixel.row) && is_ready (setup_answer p ranges len count)) }
 {
-    if (column < p.width) & (row < p.height) {
-        return false;
-    }
-    begins(p, ranges, len, count)
+    !pixel.is_inside(p) && begins(p, ranges, len, count)
 }
 
 // Whether a setup begins, found without writing.
@@ -96,18 +86,14 @@ fn begins(p: Chosen, ranges: Ranges, len: usize, count: usize) -> bool
     if count < p.width as usize * p.height as usize {
         return false;
     }
-    match implicit::least_ring(p, ranges) {
-        NeededAnswer::Bytes(need) => need <= len,
-        NeededAnswer::Refused(_) => false,
-    }
+    implicit::least_ring(p, ranges).is_ok_and(|need| need <= len)
 }
 
 // The answer by how the repetition ended.
-fn answer(p: Repeated, reason: Reason) -> Explanation
-    ensures { result ≡ explanation_of p reason p.ending }
+fn answer(p: Repeated, ending: Ending, reason: Reason) -> Explanation
+    ensures { result ≡ explanation_of p reason ending }
 {
     let state = p.state;
-    let ending = p.ending;
     match ending {
         Ending::Stop(why) => Explanation::Stopped {
             why,
@@ -116,23 +102,14 @@ fn answer(p: Repeated, reason: Reason) -> Explanation
             evaluations: p.evaluations,
             tape: p.tape,
         },
-        Ending::Done => reach(p, reason, Ending::Done),
-        Ending::Limit => reach(p, reason, Ending::Limit),
-        Ending::More => reach(p, reason, Ending::More),
-    }
-}
-
-fn reach(p: Repeated, reason: Reason, ending: Ending) -> Explanation
-    ensures { result ≡ Explanation.Of reason p.state p.steps p.evaluations p.tape ending }
-{
-    let state = p.state;
-    Explanation::Of {
-        reason,
-        state,
-        steps: p.steps,
-        evaluations: p.evaluations,
-        tape: p.tape,
-        ending,
+        ending => Explanation::Of {
+            reason,
+            state,
+            steps: p.steps,
+            evaluations: p.evaluations,
+            tape: p.tape,
+            ending,
+        },
     }
 }
 
@@ -142,14 +119,12 @@ fn reason_of(s: State, ring: &[u8], cells: &[u64], at: usize, k: Notes) -> Reaso
     ensures { result ≡ reason_noted s ring.now k (meaning_of (get_or cells.now at 0)) }
 {
     let c = cells[at];
-    let mark = k.mark;
-    let denial = k.denial;
     match image::read_cell(c, s.taken) {
         Reading::True => Reason::True {
-            at: mark,
+            at: k.mark,
             point: k.point,
         },
-        Reading::False => Reason::False { at: denial },
+        Reading::False => Reason::False { at: k.denial },
         Reading::Uncertain => {
             let up = image::cells_hold(&cells[at..at + 1], CellKind::GivenUp);
             reason_open(s, ring, c, up, k.up)

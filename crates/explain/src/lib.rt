@@ -3,9 +3,9 @@
 #![tactic(auto)]
 
 mod explaining;
-mod judging;
 mod look;
 mod noting;
+mod pixel;
 mod reason;
 mod repeating;
 mod walking;

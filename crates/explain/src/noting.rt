@@ -1,17 +1,19 @@
 // What is kept of the steps so far about the pixel, and what one step more adds to it. Nothing is written.
 ghost use Rattle.std.specs.Prelude.{◌≡◌};
 ghost use Rattle.implicit.specs.Listing.{front_of};
-ghost use Rattle.explain.specs.NotesComputed.{later_moment, with_look, noted_block, noted_front};
+ghost use Rattle.explain.specs.Reasons.{moment_at};
+ghost use Rattle.explain.specs.NotesComputed.{with_look, noted_block, noted_front};
 
-use crate::judging::judge_again;
-use crate::look::{Look, covers, look_at_children};
+use crate::look::{Look, look_at_children};
+use crate::pixel::Pixel;
 use crate::reason::Moment;
 use decide::{Chosen, cut_of};
 use implicit::State;
-use queue::{Block, Peeked};
+use plan::judge_children;
+use queue::Block;
 
 // The last mark, with the sample point or 0; the last covering block taken, with the first covering child answered false; and the last giving up.
-#[derive(Clone, Copy)]
+#[derive(Clone, Copy, Default)]
 pub(crate) struct Notes {
     pub mark: Moment,
     pub point: u8,
@@ -26,21 +28,15 @@ pub(crate) fn note_step(
     cells: &[u64],
     tape: &[u8],
     step: u64,
-    column: u32,
-    row: u32,
+    pixel: Pixel,
     k: Notes,
 ) -> Notes
-    ensures { result ≡ noted_front s.chosen column row cells.now tape.now step (front_of s ring.now) k }
+    ensures { result ≡ noted_front s.chosen pixel.column pixel.row cells.now tape.now step (front_of s ring.now) k }
 {
     let p = s.chosen;
     match queue::peek(ring, s.head, s.used, p.set, s.front) {
-        Peeked::Front {
-            block,
-            head: _,
-            used: _,
-        } => note_block(p, block, cells, tape, step, column, row, k),
-        Peeked::Damaged => k,
-        Peeked::Outside => k,
+        Ok(read) => note_block(p, read.block, cells, tape, step, pixel, k),
+        Err(_) => k,
     }
 }
 
@@ -51,43 +47,40 @@ fn note_block(
     cells: &[u64],
     tape: &[u8],
     step: u64,
-    column: u32,
-    row: u32,
+    pixel: Pixel,
     k: Notes,
 ) -> Notes
-    ensures { result ≡ noted_block p column row cells.now tape.now step b k }
+    ensures { result ≡ noted_block p pixel.column pixel.row cells.now tape.now step b k }
 {
-    if !covers(p, column, row, b) {
+    if !pixel.is_covered(p, b) {
         return k;
     }
     let cut = cut_of(p, b);
-    let j = judge_again(p, b, cut, tape, cells);
-    add_look(k, step, look_at_children(p, column, row, b, cut, j))
+    let j = judge_children(p, b, cut, tape, cells);
+    add_look(k, step, look_at_children(p, pixel, b, cut, j))
 }
 
+// What a look at the step's children adds: its last mark and giving up, where it has them, and its denial.
 fn add_look(k: Notes, step: u64, l: Look) -> Notes
     ensures { result ≡ with_look k step l }
 {
-    let mark = later(step, l.mark, k.mark);
-    let up = later(step, l.stuck, k.up);
-    let denial = Moment {
-        step,
-        child: l.denied,
+    let (mark, point) = match l.mark {
+        Some(m) => (moment(step, m.child), m.point),
+        None => (k.mark, k.point),
     };
     Notes {
         mark,
-        point: if l.mark == 0 { k.point } else { l.point },
-        denial,
-        up,
+        point,
+        denial: moment(step, l.denied.unwrap_or(0)),
+        up: match l.stuck {
+            Some(child) => moment(step, child),
+            None => k.up,
+        },
     }
 }
 
-// This step with a child's place in it, if there is one, else the moment before.
-fn later(step: u64, child: u8, before: Moment) -> Moment
-    ensures { result ≡ later_moment step child before }
+fn moment(step: u64, child: u8) -> Moment
+    ensures { result ≡ moment_at step child }
 {
-    if child == 0 {
-        return before;
-    }
     Moment { step, child }
 }

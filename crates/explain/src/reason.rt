@@ -3,9 +3,10 @@ use implicit::{Ending, State};
 use queue::Block;
 use refusal::Refusal;
 
-// A step of the run, and a child's place in it, among all its children; both count from 1.
+// A step of the run, and a child's place in it, among all its children; both count from 1. 0 is none and no Option, as is the point of a mark: so C's record
+// has them, so they are printed, and so `last_mark`, `last_denial` and `last_giving_up` of specs/ define them.
 #[repr(C)]
-#[derive(Clone, Copy)]
+#[derive(Clone, Copy, Default)]
 pub struct Moment {
     pub step: u64,
     pub child: u8,
@@ -35,7 +36,7 @@ pub enum Reason {
     },
 }
 
-// The reason, after the finished steps, with what a run of them reports; or the number of the step that refused, with the same; or why nothing was begun.
+// The reason, after the finished steps, with what a run of them reports; or the number of the step that refused, with the same.
 #[derive(Clone, Copy)]
 pub enum Explanation {
     Of {
@@ -53,5 +54,4 @@ pub enum Explanation {
         evaluations: u64,
         tape: usize,
     },
-    Refused(Refusal),
 }

@@ -4,15 +4,15 @@ ghost use Rattle.implicit.specs.Record.{pixel_count};
 ghost use Rattle.implicit.specs.Step.{world_of};
 ghost use Rattle.implicit.specs.Run.{run_from, empty_ending};
 ghost use Rattle.explain.specs.NotesComputed.{no_notes};
-ghost use Rattle.explain.specs.RepeatComputed.{BoundedBy, RepeatedTo, repeated_halt, repeated_step, RepeatGone, RepeatTried, notes_after};
+ghost use Rattle.explain.specs.RepeatComputed.{BoundedBy, RepeatedTo, repeated_step, RepeatGone, RepeatTried, notes_after};
 
 use crate::noting::{Notes, note_step};
-use crate::reason::Moment;
+use crate::pixel::Pixel;
 use decide::Chosen;
-use image::{CellKind, Seen};
-use implicit::{Ending, State, StepAnswer};
+use image::CellKind;
+use implicit::{Ending, Finished, State};
 
-// How far the repetition is: what a run has counted, the notes, and, once it is over, how it ended.
+// How far the repetition is: what a run has counted, and the notes.
 #[derive(Clone, Copy)]
 pub(crate) struct Repeated {
     pub state: State,
@@ -20,70 +20,60 @@ pub(crate) struct Repeated {
     pub evaluations: u64,
     pub tape: usize,
     pub notes: Notes,
-    pub ending: Ending,
-    pub going: bool,
 }
 
-// All steps: as many as asked for, fewer where the queue is empty or a step refuses.
+// All steps: as many as asked for, fewer where the queue is empty or a step refuses. How far they came, and how they ended.
 pub(crate) fn repeat_steps(
     s: State,
     ring: &mut [u8],
     cells: &mut [u64],
     tape: &[u8],
     budget: u32,
-    column: u32,
-    row: u32,
-) -> Repeated
+    pixel: Pixel,
+) -> (Repeated, Ending)
     requires { leb (pixel_count s.chosen) (length cells.old) ≡ true }
-    ensures repeated_to { RepeatedTo (run_from budget (world_of s ring.old cells.old) tape.now) result
+    ensures repeated_to { RepeatedTo (run_from budget (world_of s ring.old cells.old) tape.now) result.0 result.1
         ring.new cells.new }
-    ensures notes { result.notes ≡ notes_after column row budget (world_of s ring.old cells.old) tape.now 0 no_notes }
-    ensures chosen { result.state.chosen ≡ s.chosen }
+    ensures notes { result.0.notes ≡ notes_after pixel.column pixel.row budget (world_of s ring.old cells.old) tape.now 0 no_notes }
+    ensures chosen { result.0.state.chosen ≡ s.chosen }
 {
-    let none = Moment { step: 0, child: 0 };
-    let notes = Notes {
-        mark: none,
-        point: 0,
-        denial: none,
-        up: none,
-    };
     let mut p = Repeated {
         state: s,
         steps: 0,
         evaluations: 0,
         tape: 0,
-        notes,
-        ending: Ending::More,
-        going: true,
+        notes: Notes::default(),
     };
-    while p.going {
-        p = go_on(p, ring, cells, tape, budget, column, row);
+    loop {
+        match go_on(p, ring, cells, tape, budget, pixel) {
+            Ok(next) => p = next,
+            Err(ending) => return (p, ending),
+        }
     }
-    p
 }
 
-// The tests of a run in their order, and the next step.
+// The tests of a run in their order, and the next step; or how the repetition ends here. The ring, the cells and the tape go one by one, as a struct of two
+// mutable slices would be lent again at each call, and each contract would name its parts all the same.
 fn go_on(
     p: Repeated,
     ring: &mut [u8],
     cells: &mut [u64],
     tape: &[u8],
     budget: u32,
-    column: u32,
-    row: u32,
-) -> Repeated
+    pixel: Pixel,
+) -> Result<Repeated, Ending>
     requires { BoundedBy budget tape.now p × (leb (pixel_count p.state.chosen) (length cells.old) ≡ true) }
-    ensures { RepeatGone budget column row p (world_of p.state ring.old cells.old) tape.now result
+    ensures { RepeatGone budget pixel.column pixel.row p (world_of p.state ring.old cells.old) tape.now result
         ring.new cells.new }
 {
     let s = p.state;
     if (s.taken == s.queued) & (s.used == 0) {
-        return halt(p, empty_ending(s.chosen, cells));
+        return Err(empty_ending(s.chosen, cells));
     }
     if budget as u64 <= p.steps {
-        return halt(p, Ending::More);
+        return Err(Ending::More);
     }
-    go_step(p, ring, cells, tape, column, row)
+    go_step(p, ring, cells, tape, pixel)
 }
 
 // How a run ends whose queue is empty.
@@ -92,26 +82,11 @@ fn empty_ending(p: Chosen, cells: &[u64]) -> Ending
     ensures { result ≡ empty_ending p cells.now }
 {
     let all = image::whole(p.width, p.height);
-    match image::rectangle_holds(cells, p.width, p.height, all, CellKind::GivenUp) {
-        Seen::Yes => Ending::Limit,
-        Seen::No => Ending::Done,
-        Seen::Outside => Ending::Done,
-    }
-}
-
-fn halt(p: Repeated, ending: Ending) -> Repeated
-    ensures { result ≡ repeated_halt p ending }
-{
-    let state = p.state;
-    let notes = p.notes;
-    Repeated {
-        state,
-        steps: p.steps,
-        evaluations: p.evaluations,
-        tape: p.tape,
-        notes,
-        ending,
-        going: false,
+    let given_up = image::rectangle_holds(cells, p.width, p.height, all, CellKind::GivenUp);
+    if given_up.unwrap_or(false) {
+        Ending::Limit
+    } else {
+        Ending::Done
     }
 }
 
@@ -121,11 +96,10 @@ fn go_step(
     ring: &mut [u8],
     cells: &mut [u64],
     tape: &[u8],
-    column: u32,
-    row: u32,
-) -> Repeated
+    pixel: Pixel,
+) -> Result<Repeated, Ending>
     requires { (p.tape ≤ length tape.now) × (p.steps < 2 ^ 32) × (p.evaluations ≤ 24 * p.steps) }
-    ensures { RepeatTried column row p (world_of p.state ring.old cells.old) tape.now result
+    ensures { RepeatTried pixel.column pixel.row p (world_of p.state ring.old cells.old) tape.now result
         ring.new cells.new }
 {
     let at = p.tape;
@@ -135,32 +109,24 @@ fn go_step(
         cells,
         &tape[at..],
         p.steps + 1,
-        column,
-        row,
+        pixel,
         p.notes,
     );
     match implicit::tape_step(p.state, ring, cells, &tape[at..]) {
-        StepAnswer::Refused { why, state: _ } => halt(p, Ending::Stop(why)),
-        StepAnswer::Finished {
-            state,
-            evaluations,
-            verdicts,
-        } => add_step(p, state, evaluations, verdicts, notes),
+        Ok(f) => Ok(add_step(p, f, notes)),
+        Err(f) => Err(Ending::Stop(f.why)),
     }
 }
 
-fn add_step(p: Repeated, state: State, evaluations: u64, verdicts: usize, notes: Notes) -> Repeated
-    requires { (p.steps < 2 ^ 32) × (p.evaluations + evaluations < 2 ^ 64) × (p.tape + verdicts < 2 ^ 64) }
-    ensures { result ≡ repeated_step p state evaluations verdicts notes }
+fn add_step(p: Repeated, f: Finished, notes: Notes) -> Repeated
+    requires { (p.steps < 2 ^ 32) × (p.evaluations + f.evaluations < 2 ^ 64) × (p.tape + f.verdicts < 2 ^ 64) }
+    ensures { result ≡ repeated_step p f.state f.evaluations f.verdicts notes }
 {
-    let ending = p.ending;
     Repeated {
-        state,
+        state: f.state,
         steps: p.steps + 1,
-        evaluations: p.evaluations + evaluations,
-        tape: p.tape + verdicts,
+        evaluations: p.evaluations + f.evaluations,
+        tape: p.tape + f.verdicts,
         notes,
-        ending,
-        going: true,
     }
 }

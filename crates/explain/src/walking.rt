@@ -7,7 +7,7 @@ ghost use Rattle.explain.specs.RepeatComputed.{taken_behind};
 
 use coordinate::{Coordinate, PIXEL_RANK};
 use implicit::State;
-use queue::{Block, Taken, whole_line};
+use queue::{Block, QueueError, Taken, whole_line};
 
 // The queued block with so many before it; where the bytes on the way are damaged, a blank one.
 pub(crate) fn block_behind(s: State, ring: &[u8], before: u64) -> Block
@@ -22,37 +22,24 @@ pub(crate) fn block_behind(s: State, ring: &[u8], before: u64) -> Block
 }
 
 // What is taken after this.
-fn take_behind(ring: &[u8], set: u8, t: Taken) -> Taken
+fn take_behind(ring: &[u8], set: u8, t: Result<Taken, QueueError>) -> Result<Taken, QueueError>
     ensures { result ≡ taken_behind ring.now set t }
 {
-    match t {
-        Taken::Front {
-            block: _,
-            last,
-            head,
-            used,
-        } => queue::take(ring, head, used, set, last),
-        Taken::Damaged => Taken::Damaged,
-        Taken::Outside => Taken::Outside,
-    }
+    let before = t?;
+    queue::take(ring, before.head, before.used, set, before.last)
 }
 
-fn block_of(t: Taken) -> Block
+// No `map_or`: it would make the blank block each time.
+fn block_of(t: Result<Taken, QueueError>) -> Block
     ensures { result ≡ taken_block t }
 {
     match t {
-        Taken::Front {
-            block,
-            last: _,
-            head: _,
-            used: _,
-        } => block,
-        Taken::Damaged => blank_block(),
-        Taken::Outside => blank_block(),
+        Ok(taken) => taken.block,
+        Err(_) => blank_block(),
     }
 }
 
-// A block that stands where there is none.
+// A block that stands where there is none. That in the places of children has its coordinates' ranks 0, and crosses to C so; it is made of this one.
 pub fn blank_block() -> Block
     ensures { result ≡ blank_block }
 {

@@ -12,19 +12,17 @@ use lib.ListN.{length, get_or, take, drop, drop_of_length-le}
 use lib.ListN as L
 use lib.Seq.{drop-cons}
 use mir.Val.{bool_byte}
+use Rattle.std.specs.Prelude.{Option, Some, None}
 use Rattle.base.proofs.Test.{cases, cond_yes, cond_no, and_left, and_right, and_both}
 use Rattle.image.specs.declared.CellKind.{CellKind}
 use Rattle.image.specs.declared.CellKind.TheVariants as K
 use Rattle.image.specs.declared.Reading.TheVariants as R
 use Rattle.image.specs.declared.PixelRange.{PixelRange}
-use Rattle.image.specs.declared.Seen.{Seen}
-use Rattle.image.specs.declared.Seen.TheVariants as S
 use Rattle.image.specs.declared.CellTally.{CellTally}
-use Rattle.image.specs.declared.CellTallyAnswer.TheVariants as A
 use Rattle.image.specs.Cell.{Cell, Named, Marked, GivenUp, Other, given_up_code, meaning_of, meanings, reading, is_marked, is_given_up, of_kind}
 use Rattle.image.specs.Cell.{count_of, is_true, is_false, is_uncertain, tallied}
 use Rattle.image.specs.Range.{holds_cell, picture_ready}
-use Rattle.image.specs.Painting.{keep_at, held_cells, some_of, every_of, seen_if, some_seen, all_true_seen, tally_answer}
+use Rattle.image.specs.Painting.{keep_at, held_cells, some_of, every_of, some_seen, all_true_seen, tally_answer}
 use Rattle.image.specs.RowsComputed.{tally_sum, SmallTally}
 use Rattle.image.proofs.AtLaws.{keep_at_none, length_keep_at, keep_at_stretch, keep_at_map}
 use Rattle.image.proofs.CellLaws.{abandoned_code}
@@ -188,37 +186,16 @@ unfolding held_from
 held_length width left right row bottom l =
     omega (arith, L.length-map (keep_at (holds_cell width (band left right row bottom)) 0 l) meaning_of, length_keep_at (holds_cell width (band left right row bottom)) 0 l)
 
--- a row without, and then the rows after it; a row with
-pub some_not_here : (test : Cell → Bool) (width left right row bottom start end : ℕ) (l : List ℕ) → left ≤ right → right ≤ width → row < bottom
-    → start ≡ row * width + left → end ≡ row * width + right → end ≤ length l → some_of test (meanings (take (end - start) (drop start l))) ≡ false
-    → some_of test (held_from width left right (row + 1) bottom l) ≡ some_of test (held_from width left right row bottom l)
-some_not_here test width left right row bottom start end l across fits more s e long t =
-    sym (ap (some_of test) (held_pass width left right row bottom start end l across fits more s e long)
-    ∙ some_append test (meanings (take (end - start) (drop start l))) (held_from width left right (row + 1) bottom l)
-    ∙ ap (λ (b : Bool). b || some_of test (held_from width left right (row + 1) bottom l)) t)
-
-pub some_here : (test : Cell → Bool) (width left right row bottom start end : ℕ) (l : List ℕ) → left ≤ right → right ≤ width → row < bottom
-    → start ≡ row * width + left → end ≡ row * width + right → end ≤ length l → some_of test (meanings (take (end - start) (drop start l))) ≡ true
-    → some_of test (held_from width left right row bottom l) ≡ true
-some_here test width left right row bottom start end l across fits more s e long t =
-    ap (some_of test) (held_pass width left right row bottom start end l across fits more s e long)
-    ∙ some_append test (meanings (take (end - start) (drop start l))) (held_from width left right (row + 1) bottom l)
-    ∙ ap (λ (b : Bool). b || some_of test (held_from width left right (row + 1) bottom l)) t
-
 -- TURNS OF A ROW'S LOOPS
 
 pub drop_meanings : (row : List ℕ) (i : ℕ) → i < length row → meanings (drop i row) ≡ meaning_of (get_or row i 0) ∷ meanings (drop (i + 1) row)
 drop_meanings row i h = rw (add-one, drop-cons row i 0 h)
 
-pub find_hit : (test : Cell → Bool) (row : List ℕ) (i : ℕ) → i < length row → test (meaning_of (get_or row i 0)) ≡ true
-    → some_of test (meanings (drop i row)) ≡ true
+-- a cell is looked at, and then those after it
+pub find_next : (test : Cell → Bool) (row : List ℕ) (i : ℕ) (b : Bool) → i < length row → b ≡ test (meaning_of (get_or row i 0))
+    → (b || some_of test (meanings (drop (i + 1) row))) ≡ some_of test (meanings (drop i row))
 unfolding some_of
-find_hit test row i h t = ap (some_of test) (drop_meanings row i h) ∙ ap (λ (b : Bool). b || some_of test (meanings (drop (i + 1) row))) t
-
-pub find_pass : (test : Cell → Bool) (row : List ℕ) (i : ℕ) → i < length row → test (meaning_of (get_or row i 0)) ≡ false
-    → some_of test (meanings (drop (i + 1) row)) ≡ some_of test (meanings (drop i row))
-unfolding some_of
-find_pass test row i h t = sym (ap (some_of test) (drop_meanings row i h) ∙ ap (λ (b : Bool). b || some_of test (meanings (drop (i + 1) row))) t)
+find_next test row i b h e = rw (e, drop_meanings row i h)
 
 pub find_end : (test : Cell → Bool) (row : List ℕ) (i : ℕ) → length row ≤ i → some_of test (meanings (drop i row)) ≡ false
 unfolding some_of
@@ -230,8 +207,8 @@ find_end test row i h = ap (λ (l : List ℕ). some_of test (meanings l)) (drop_
 abbrev pub no_tally : CellTally
 no_tally = record { trues = 0; falses = 0; uncertain = 0; givenup = 0 }
 
-pub tally_start : (t : CellTally) → tally_sum no_tally t ≡ t
-tally_start t = simp zero-add
+pub tally_start : (d t : CellTally) → (d.trues ≡ 0) × ((d.falses ≡ 0) × ((d.uncertain ≡ 0) × (d.givenup ≡ 0))) → tally_sum d t ≡ t
+tally_start d t (a, (b, (c, e))) = rw (a, b, c, e) (simp zero-add)
 
 plus_none : (t : CellTally) → tally_sum t no_tally ≡ t
 plus_none t = simp add-zero
@@ -262,44 +239,38 @@ part_small t u v e s = record {
 -- THE ANSWERS
 
 pub seen_outside : (width height : ℕ) (r : PixelRange) (kind : CellKind) (l : List ℕ) → picture_ready width height r (length l) ≡ false
-    → some_seen width height r kind l ≡ S.Outside
+    → some_seen width height r kind l ≡ None
 unfolding some_seen
 seen_outside width height r kind l e = cond_no (picture_ready width height r (length l)) _ _ e
 
 pub seen_answered : (width height : ℕ) (r : PixelRange) (kind : CellKind) (l : List ℕ) (b : Bool) → picture_ready width height r (length l) ≡ true
-    → b ≡ some_of (of_kind kind) (held_cells width r (meanings l)) → some_seen width height r kind l ≡ seen_if b
+    → b ≡ some_of (of_kind kind) (held_cells width r (meanings l)) → some_seen width height r kind l ≡ Some b
 unfolding some_seen
-seen_answered width height r kind l b e f = cond_yes (picture_ready width height r (length l)) _ _ e ∙ ap seen_if (sym f)
+seen_answered width height r kind l b e f = cond_yes (picture_ready width height r (length l)) _ _ e ∙ ap Some (sym f)
 
 -- the answer to the opposite question
-abbrev pub opposite : Seen → Seen
-opposite S.Yes = S.No
-opposite S.No = S.Yes
-opposite S.Outside = S.Outside
+abbrev pub opposite : Option Bool → Option Bool
+opposite (Some b) = Some (not b)
+opposite None = None
 
 -- every one is True exactly if none is not
-all_opposite : (width height : ℕ) (r : PixelRange) (l : List ℕ) → all_true_seen width height r l ≡ opposite (some_seen width height r K.Unmarked l)
+pub all_opposite : (width height : ℕ) (r : PixelRange) (l : List ℕ) → all_true_seen width height r l ≡ opposite (some_seen width height r K.Unmarked l)
 unfolding all_true_seen some_seen
 all_opposite width height r l =
-    ap (λ (b : Bool). cond (picture_ready width height r (length l)) (seen_if b) S.Outside)
+    ap (λ (b : Bool). cond (picture_ready width height r (length l)) (Some b) None)
     (every_some is_marked (held_cells width r (meanings l)) ∙ ap not (sym (unmarked_some (held_cells width r (meanings l)))))
     ∙ go (picture_ready width height r (length l)) (some_of (of_kind K.Unmarked) (held_cells width r (meanings l)))
   where
-    go : (a b : Bool) → cond a (seen_if (not b)) S.Outside ≡ opposite (cond a (seen_if b) S.Outside)
-    go true true = refl
-    go true false = refl
+    go : (a b : Bool) → cond a (Some (not b)) None ≡ opposite (cond a (Some b) None)
+    go true b = refl
     go false b = refl
 
-pub all_true : (width height : ℕ) (r : PixelRange) (l : List ℕ) (s a : Seen) → s ≡ some_seen width height r K.Unmarked l → opposite s ≡ a
-    → a ≡ all_true_seen width height r l
-all_true width height r l s a e f = sym f ∙ ap opposite e ∙ sym (all_opposite width height r l)
-
 pub tally_outside : (width height : ℕ) (r : PixelRange) (taken : ℕ) (l : List ℕ) → picture_ready width height r (length l) ≡ false
-    → tally_answer width height r taken l ≡ A.Outside
+    → tally_answer width height r taken l ≡ None
 unfolding tally_answer
 tally_outside width height r taken l e = cond_no (picture_ready width height r (length l)) _ _ e
 
 pub tally_answered : (width height : ℕ) (r : PixelRange) (taken : ℕ) (l : List ℕ) → picture_ready width height r (length l) ≡ true
-    → tally_answer width height r taken l ≡ A.Of (tallied taken (held_cells width r (meanings l)))
+    → tally_answer width height r taken l ≡ Some (tallied taken (held_cells width r (meanings l)))
 unfolding tally_answer
 tally_answered width height r taken l e = cond_yes (picture_ready width height r (length l)) _ _ e

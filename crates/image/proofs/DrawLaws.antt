@@ -1,8 +1,8 @@
 -- Laws of cells one after another: looked through part by part, and drawn part by part and byte by byte. Assumes nothing.
 use mathlib.Core.Path.{◌≡◌, refl, sym, ap, ap₂, ◌∙◌}
-use mathlib.Core.Bool.{Bool, true, false, cond, ◌||◌}
+use mathlib.Core.Bool.{Bool, true, false, cond, ◌||◌, or_assoc}
 use mathlib.Core.List.{List, [], ◌∷◌, ◌++◌, map, map-append, append_assoc, append-nil}
-use Prim.Native.Nat.{ℕ, suc, ◌+◌, ◌-◌, ◌≤◌, ◌<◌, min}
+use Prim.Native.Nat.{ℕ, zero, suc, ◌*◌, ◌/◌, ◌+◌, ◌-◌, ◌≤◌, ◌<◌, min}
 use native.Mathlib.Nat.{min-eq_left, min-eq_right, le_of_lt}
 use native.Mathlib.Numerals.{add-one}
 use native.Mathlib.Omega.{arith}
@@ -12,6 +12,8 @@ use lib.ListN as L
 use lib.Seq.{take-suc, drop-cons, append_snoc, set_at, length-take-le, take_at, drop_at, take_all, take-add, drop-drop}
 use mir.Val.{bool_byte}
 use borrow.Author.Tests.{le-leb, lt-leb, leb-true, leb-false, eq-eqb, ne_eqb}
+use Rattle.std.specs.List.{list_any}
+use Rattle.std.specs.Simd.{first_chunks}
 use Rattle.base.proofs.Test.{cases, cond_yes, cond_no}
 use Rattle.image.specs.declared.Reading.TheVariants as R
 use Rattle.image.specs.Cell.{Cell, true_code, given_up_code, meaning_of, meanings, reading, byte_of, shown_byte}
@@ -21,33 +23,31 @@ use Rattle.image.proofs.CountLaws.{some_append}
 
 -- PART BY PART
 
--- up to the end of a part, and from there
-stretch_split : (start end : ℕ) (l : List ℕ) → start ≤ end → drop start l ≡ take (end - start) (drop start l) ++ drop end l
-stretch_split start end l h =
-    let e : start + (end - start) ≡ end = omega arith in
-    sym (take-append-drop (end - start) (drop start l))
-    ∙ ap (λ (m : List ℕ). take (end - start) (drop start l) ++ m) (drop-drop (end - start) start l ∙ ap (λ (n : ℕ). drop n l) e)
+some_front : (test : Cell → Bool) (l : List ℕ) → some_of test (meanings l) ≡ (some_of test (meanings (take 16 l)) || some_of test (meanings (drop 16 l)))
+some_front test l =
+    ap (λ (m : List ℕ). some_of test (meanings m)) (sym (take-append-drop 16 l))
+    ∙ ap (some_of test) (map-append meaning_of (take 16 l) (drop 16 l))
+    ∙ some_append test (meanings (take 16 l)) (meanings (drop 16 l))
 
-some_split : (test : Cell → Bool) (start end : ℕ) (l : List ℕ) → start ≤ end
-    → some_of test (meanings (drop start l)) ≡ (some_of test (meanings (take (end - start) (drop start l))) || some_of test (meanings (drop end l)))
-some_split test start end l h =
-    ap (λ (m : List ℕ). some_of test (meanings m)) (stretch_split start end l h)
-    ∙ ap (some_of test) (map-append meaning_of (take (end - start) (drop start l)) (drop end l))
-    ∙ some_append test (meanings (take (end - start) (drop start l))) (meanings (drop end l))
+-- k parts of sixteen, and the rest
+parts_some : (test : Cell → Bool) (k : ℕ) (l : List ℕ)
+    → (list_any (λ m. some_of test (meanings m)) (first_chunks 16 k l) || some_of test (meanings (drop (k * 16) l))) ≡ some_of test (meanings l)
+parts_some test zero l = refl
+parts_some test (suc k) l =
+    let e : suc k * 16 ≡ 16 + k * 16 = omega arith in
+    let front = some_of test (meanings (take 16 l)) in
+    let parts = list_any (λ (m : List ℕ). some_of test (meanings m)) (first_chunks 16 k (drop 16 l)) in
+    rw e (
+    or_assoc front parts (some_of test (meanings (drop (16 + k * 16) l)))
+    ∙ ap (λ (b : Bool). front || b)
+    (ap (λ (m : List ℕ). parts || some_of test (meanings m)) (sym (drop-drop (k * 16) 16 l)) ∙ parts_some test k (drop 16 l))
+    ∙ sym (some_front test l)
+    )
 
--- a part with, and a part without
-pub some_in_part : (test : Cell → Bool) (start end : ℕ) (l : List ℕ) → start ≤ end → some_of test (meanings (take (end - start) (drop start l))) ≡ true
-    → some_of test (meanings (drop start l)) ≡ true
-some_in_part test start end l h t = some_split test start end l h ∙ ap (λ (b : Bool). b || some_of test (meanings (drop end l))) t
-
-pub some_past_part : (test : Cell → Bool) (start end : ℕ) (l : List ℕ) → start ≤ end → some_of test (meanings (take (end - start) (drop start l))) ≡ false
-    → some_of test (meanings (drop end l)) ≡ some_of test (meanings (drop start l))
-some_past_part test start end l h t = sym (some_split test start end l h ∙ ap (λ (b : Bool). b || some_of test (meanings (drop end l))) t)
-
--- the last part
-pub some_at_last : (test : Cell → Bool) (start end : ℕ) (l : List ℕ) → end ≡ length l
-    → some_of test (meanings (take (end - start) (drop start l))) ≡ some_of test (meanings (drop start l))
-some_at_last test start end l e = ap (λ (m : List ℕ). some_of test (meanings m)) (take_all (end - start) (drop start l) (omega (arith, L.length-drop start l)))
+pub stretch_some : (test : Cell → Bool) (l rest : List ℕ) (parts : List (List ℕ)) (b : Bool) → b ≡ list_any (λ m. some_of test (meanings m)) parts
+    → parts ≡ first_chunks 16 (length l / 16) l → rest ≡ drop (length l / 16 * 16) l
+    → (b || some_of test (meanings rest)) ≡ some_of test (meanings l)
+stretch_some test l rest parts b e f g = rw (e, f, g) (parts_some test (length l / 16) l)
 
 -- THE BYTE OF A CELL
 

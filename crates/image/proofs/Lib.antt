@@ -5,6 +5,7 @@ pub mod RangeLaws
 pub mod PaintLaws
 pub mod CountLaws
 pub mod PackLaws
+pub mod RegionLaws
 pub mod ShareLaws
 pub mod BlockLaws
 pub mod DrawLaws

@@ -8,10 +8,12 @@ use native.Mathlib.Nat.{zero-add, add-zero}
 use native.Mathlib.Omega.{arith}
 use lib.Bits.{bit_or, bit_and, or_add_and, and_le_l, and_le_r, or_zero_l, or_zero_r}
 use lib.Dec.{leb, ltb, eqb}
-use lib.ListN.{length, take, drop, length-map, length-append, length-take, length-drop}
+use lib.ListN.{length, drop, length-map, length-append, length-take, length-drop}
 use mir.Val.{bool_byte}
 use borrow.Author.Tests as T
 use borrow.Author.Tests.{lt-ltb, le-ltb, le-leb, eq-eqb, ne_eqb, leb-true, leb-false}
+use Rattle.std.specs.List.{sum_by}
+use Rattle.std.proofs.lemmas.List.Sums.{sum_by_from}
 use Rattle.base.proofs.Test.{cases, and_left, and_right}
 use Rattle.image.specs.declared.Reading.TheVariants as R
 use Rattle.image.specs.declared.Reading.{Reading}
@@ -20,10 +22,11 @@ use Rattle.image.specs.declared.CellTally.{CellTally}
 use Rattle.image.specs.Cell.{Cell, Named, Marked, GivenUp, Other, given_up_code, meaning_of, meanings, reading, is_given_up}
 use Rattle.image.specs.Cell.{count_of, is_true, is_false, is_uncertain, tallied}
 use Rattle.image.specs.Painting.{held_cells}
-use Rattle.image.specs.RowsComputed.{ReadyRows, tile_shaped, tally_sum, packed_tally, unpacked_tally, settled_weight, false_weight, untaken_tally}
+use Rattle.image.specs.RowsComputed.{ReadyRows, row_cells, tile_shaped, tally_sum, packed_tally, unpacked_tally, settled_weight, false_weight, untaken_tally}
 use Rattle.image.proofs.CellLaws.{by_code}
 use Rattle.image.proofs.RangeLaws.{row_fits}
-use Rattle.image.proofs.CountLaws.{count_le, tally_append, held_from, held_all, held_end, held_pass}
+use Rattle.image.proofs.CountLaws.{count_le, tally_append}
+use Rattle.image.proofs.RegionLaws.{rows_from, rows_all, rows_over, rows_next}
 
 -- WHAT A CELL ADDS
 
@@ -144,6 +147,22 @@ packed_small taken l h =
     go : (g t f : ℕ) → g ≤ length l → t ≤ length l → f ≤ length l → g + 1024 * (t + g) + 1048576 * f < 536870912
     go g t f p q r = omega arith
 
+-- cell by cell, as the library sums
+abbrev pub packed_cell : ℕ → ℕ → ℕ
+packed_cell taken n = packed_tally (tallied taken (meaning_of n ∷ []))
+
+pub packed_each : (taken : ℕ) (l : List ℕ) → packed_tally (tallied taken (meanings l)) ≡ sum_by (packed_cell taken) l
+packed_each taken [] = packed_none taken
+packed_each taken (n ∷ l) =
+    let s = ap packed_tally (tally_append taken (meaning_of n ∷ []) (meanings l)) ∙ packed_sum (tallied taken (meaning_of n ∷ [])) (tallied taken (meanings l)) in
+    omega (arith, s, packed_each taken l, sum_by_from (packed_cell taken) (0 + packed_cell taken n) l)
+
+pub packed_few : (taken : ℕ) (l : List ℕ) → length l ≤ 16 → sum_by (packed_cell taken) l < 4294967296
+packed_few taken l h =
+    let small = packed_small taken (meanings l) (omega (arith, length-map l meaning_of)) in
+    let e = packed_each taken l in
+    omega arith
+
 -- THE COUNTS FROM IT
 
 -- every cell is counted once
@@ -201,79 +220,59 @@ pub less_more : (n : ℕ) → 0 < n → n - 1 + 1 ≡ n
 less_more n h = omega arith
 
 module _ (width : ℕ) (r : PixelRange) (l : List ℕ) (h : ReadyRows width r (length l)) (s : tile_shaped r ≡ true) where
-  pub tile_right : r.right ≡ r.left + 16
+  tile_right : r.right ≡ r.left + 16
   tile_right =
       omega (arith, h.across, T.eqb-true (r.right - r.left) 16 (and_left (eqb (r.right - r.left) 16) (leb (r.bottom - r.top) 16) s))
 
   pub tile_rows : r.bottom - r.top ≤ 16
   tile_rows = leb-true (r.bottom - r.top) 16 (and_right (eqb (r.right - r.left) 16) (leb (r.bottom - r.top) 16) s)
 
-  -- a row ends inside the cells
-  pub tile_room : (row : ℕ) → row < r.bottom → row * width + r.left + 16 ≤ length l
-  tile_room row k = omega (arith, tile_right, row_fits width r (length l) row h k)
-
-  -- the cells of a row
-  abbrev tile_row : ℕ → List ℕ
-  tile_row row = take (row * width + r.left + 16 - (row * width + r.left)) (drop (row * width + r.left) l)
-
-  pub row_sixteen : (row : ℕ) → row < r.bottom → length (tile_row row) ≡ 16
+  pub row_sixteen : (row : ℕ) → row < r.bottom → length (row_cells width r row l) ≡ 16
   row_sixteen row k =
       let start = row * width + r.left in
-      omega (arith, tile_room row k, length-take (start + 16 - start) (drop start l), length-drop start l)
-
-  -- and of the rows from one on
-  abbrev tile_from : ℕ → List Cell
-  tile_from row = held_from width r.left (r.left + 16) row r.bottom l
-
-  tile_pass : (row : ℕ) → row < r.bottom → tile_from row ≡ meanings (tile_row row) ++ tile_from (row + 1)
-  tile_pass row k =
-      let start = row * width + r.left in
-      held_pass width r.left (r.left + 16) row r.bottom start (start + 16) l (omega arith) (omega (arith, tile_right, h.right)) k refl (omega arith)
-      (tile_room row k)
+      omega (arith, tile_right, row_fits width r (length l) row h k, length-take (row * width + r.right - start) (drop start l), length-drop start l)
 
   -- sixteen for each row
-  tile_cells : (k row : ℕ) → row + k ≡ r.bottom → length (tile_from row) ≡ 16 * k
-  tile_cells zero row e = ap length (held_end width r.left (r.left + 16) row r.bottom l (omega arith))
+  tile_cells : (k row : ℕ) → row + k ≡ r.bottom → length (rows_from width r l row) ≡ 16 * k
+  tile_cells zero row e = ap length (rows_over width r l row (omega arith))
   tile_cells (suc k) row e =
       let m : row < r.bottom = omega arith in
       omega (
         arith,
-        ap length (tile_pass row m),
-        length-append (meanings (tile_row row)) (tile_from (row + 1)),
-        length-map (tile_row row) meaning_of,
+        ap length (rows_next width r l h row m),
+        length-append (meanings (row_cells width r row l)) (rows_from width r l (row + 1)),
+        length-map (row_cells width r row l) meaning_of,
         row_sixteen row m,
         tile_cells k (row + 1) (omega arith),
       )
 
-  pub tile_all : length (tile_from r.top) ≡ 16 * (r.bottom - r.top)
+  tile_all : length (rows_from width r l r.top) ≡ 16 * (r.bottom - r.top)
   tile_all = tile_cells (r.bottom - r.top) r.top (omega (arith, h.down))
 
-  pub tile_small : (taken : ℕ) → packed_tally (tallied taken (tile_from r.top)) < 536870912
-  tile_small taken = packed_small taken (tile_from r.top) (omega (arith, tile_all, tile_rows))
+  pub tile_small : (taken : ℕ) → packed_tally (tallied taken (held_cells width r (meanings l))) < 536870912
+  tile_small taken =
+      rw (← rows_all width r l) (packed_small taken (rows_from width r l r.top) (omega (arith, tile_all, tile_rows)))
 
   -- a row more is summed
-  pub tile_summed : (taken p v row total : ℕ) → row < r.bottom → p + packed_tally (tallied taken (tile_from row)) ≡ total
-      → v ≡ packed_tally (tallied taken (meanings (tile_row row))) → (p + v) + packed_tally (tallied taken (tile_from (row + 1))) ≡ total
-  tile_summed taken p v row total k e f =
-      packed_pass taken p v total (meanings (tile_row row)) (tile_from (row + 1))
-      (ap (λ (m : List Cell). p + packed_tally (tallied taken m)) (sym (tile_pass row k)) ∙ e) f
+  pub tile_summed : (taken p v row total : ℕ) (m : List ℕ) → row < r.bottom → p + packed_tally (tallied taken (rows_from width r l row)) ≡ total
+      → m ≡ row_cells width r row l → v ≡ packed_tally (tallied taken (meanings m))
+      → (p + v) + packed_tally (tallied taken (rows_from width r l (row + 1))) ≡ total
+  tile_summed taken p v row total m k e f g =
+      packed_pass taken p v total (meanings (row_cells width r row l)) (rows_from width r l (row + 1)) (rw (rows_next width r l h row k) at e) (rw f at g)
 
   -- all rows are
-  pub tile_end : (taken p row total : ℕ) → row ≡ r.bottom → p + packed_tally (tallied taken (tile_from row)) ≡ total → p ≡ total
-  tile_end taken p row total k e =
-      sym (ap (λ (m : List Cell). p + packed_tally (tallied taken m)) (held_end width r.left (r.left + 16) row r.bottom l k)
-      ∙ ap (λ (m : ℕ). p + m) (packed_none taken) ∙ add-zero p)
-      ∙ e
+  pub tile_end : (taken p row total : ℕ) → row ≡ r.bottom → p + packed_tally (tallied taken (rows_from width r l row)) ≡ total → p ≡ total
+  tile_end taken p row total k e = omega (arith, rw (rows_over width r l row k) at e, packed_none taken)
 
-  pub tile_asks : (taken v : ℕ) → v ≡ packed_tally (tallied taken (tile_from r.top))
+  pub tile_asks : (taken v : ℕ) → v ≡ packed_tally (tallied taken (held_cells width r (meanings l)))
       → (v % 1024 ≤ v / 1024 % 1024) × (v / 1024 % 1024 - v % 1024 + v / 1048576 ≤ 16 * (r.bottom - r.top))
-  tile_asks taken v e = unpack_asks taken (16 * (r.bottom - r.top)) v (tile_from r.top) tile_all (omega (arith, tile_rows)) e
+  tile_asks taken v e =
+      unpack_asks taken (16 * (r.bottom - r.top)) v (rows_from width r l r.top) tile_all (omega (arith, tile_rows)) (rw (← rows_all width r l) at e)
 
-  pub tile_back : (taken v : ℕ) → v ≡ packed_tally (tallied taken (tile_from r.top))
+  pub tile_back : (taken v : ℕ) → v ≡ packed_tally (tallied taken (held_cells width r (meanings l)))
       → unpacked_tally (16 * (r.bottom - r.top)) v ≡ tallied taken (held_cells width r (meanings l))
   tile_back taken v e =
-      unpack_packed taken (16 * (r.bottom - r.top)) v (tile_from r.top) tile_all (omega (arith, tile_rows)) e
-      ∙ ap (λ (m : ℕ). tallied taken (held_from width r.left m r.top r.bottom l)) (sym tile_right) ∙ ap (tallied taken) (held_all width r l)
+      rw (← rows_all width r l) (unpack_packed taken (16 * (r.bottom - r.top)) v (rows_from width r l r.top) tile_all (omega (arith, tile_rows)) (rw (← rows_all width r l) at e))
 
 -- WHERE NO BLOCK HAS BEEN TAKEN
 

@@ -6,7 +6,7 @@ use Prim.Native.Nat.{ℕ, suc, ◌+◌, ◌-◌, ◌*◌, ◌≤◌, ◌<◌}
 use native.Mathlib.Omega.{arith}
 use native.Mathlib.Nat.{zero-add}
 use native.Mathlib.Numerals.{add-one}
-use lib.ListN.{length, get_or, take, drop, set, drop_of_length-le}
+use lib.ListN.{length, get_or, take, drop, set, replicate, drop_of_length-le}
 use lib.ListN as L
 use lib.Seq.{take_all, take-suc-set, drop-set-lt, drop-cons}
 use Rattle.base.proofs.Test.{cases, cond_yes, cond_no, and_right}
@@ -152,7 +152,12 @@ paint_pass width left right row bottom start end op l ys across fits more s e lo
         ∙ ap (λ (b : Bool). cond b (touched op n) n)
         (sym (stretch_rest width left right row bottom fits more j (λ p q. true≢false (sym (between_in start end j (omega arith) (omega arith)) ∙ t))))
 
--- TURNS OF A ROW'S LOOP
+-- A ROW
+
+-- what gives all elements one value fills the row
+pub filled : (v : ℕ) (row : List ℕ) → replicate (length row) v ≡ map (λ n. v) row
+filled v [] = refl
+filled v (n ∷ row) = ap (λ (l : List ℕ). v ∷ l) (filled v row)
 
 -- the elements from one on are still to be changed
 unfoldable pub row_from : (ℕ → ℕ) → ℕ → List ℕ → List ℕ

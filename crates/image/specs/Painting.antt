@@ -1,13 +1,10 @@
 -- What is done to the cells of a rectangle, looked for in them, counted and shown: document 01, "Picture and step", on the meanings of all lent cells.
 -- Cells that the rectangle does not hold keep their value, those beyond the pixels too: no rectangle of a picture holds one of these.
-use Rattle.std.specs.Prelude.{Bool, true, false, cond, ◌&&◌, ◌||◌, List, [], ◌∷◌, map, ℕ, suc, eqb, length, get_or}
+use Rattle.std.specs.Prelude.{Bool, true, false, cond, ◌&&◌, ◌||◌, List, [], ◌∷◌, map, ℕ, suc, eqb, length, get_or, Option, Some, None}
 use Rattle.image.specs.declared.Op.{Op}
 use Rattle.image.specs.declared.CellKind.{CellKind}
+use Rattle.image.specs.declared.CellTally.{CellTally}
 use Rattle.image.specs.declared.PixelRange.{PixelRange}
-use Rattle.image.specs.declared.Seen.{Seen}
-use Rattle.image.specs.declared.Seen.TheVariants as S
-use Rattle.image.specs.declared.CellTallyAnswer.{CellTallyAnswer}
-use Rattle.image.specs.declared.CellTallyAnswer.TheVariants as A
 use Rattle.image.specs.Cell.{Cell, Named, meanings, codes, done_to, nameable, is_marked, of_kind, tallied, shown_byte}
 use Rattle.image.specs.Range.{cell_index, holds_cell, picture_ready}
 
@@ -51,25 +48,20 @@ unfoldable pub every_of : (Cell → Bool) → List Cell → Bool
 every_of test [] = true
 every_of test (c ∷ l) = test c && every_of test l
 
--- yes or no
-abbrev pub seen_if : Bool → Seen
-seen_if true = S.Yes
-seen_if false = S.No
-
--- does the rectangle hold a cell of a kind?
-unfoldable pub some_seen : ℕ → ℕ → PixelRange → CellKind → List ℕ → Seen
+-- does the rectangle hold a cell of a kind? Nothing is answered where it or the cells do not fit the picture
+unfoldable pub some_seen : ℕ → ℕ → PixelRange → CellKind → List ℕ → Option Bool
 some_seen width height r kind l =
-    cond (picture_ready width height r (length l)) (seen_if (some_of (of_kind kind) (held_cells width r (meanings l)))) S.Outside
+    cond (picture_ready width height r (length l)) (Some (some_of (of_kind kind) (held_cells width r (meanings l)))) None
 
 -- is every cell of the rectangle True?
-unfoldable pub all_true_seen : ℕ → ℕ → PixelRange → List ℕ → Seen
+unfoldable pub all_true_seen : ℕ → ℕ → PixelRange → List ℕ → Option Bool
 all_true_seen width height r l =
-    cond (picture_ready width height r (length l)) (seen_if (every_of is_marked (held_cells width r (meanings l)))) S.Outside
+    cond (picture_ready width height r (length l)) (Some (every_of is_marked (held_cells width r (meanings l)))) None
 
 -- the counts of the rectangle
-unfoldable pub tally_answer : ℕ → ℕ → PixelRange → ℕ → List ℕ → CellTallyAnswer
+unfoldable pub tally_answer : ℕ → ℕ → PixelRange → ℕ → List ℕ → Option CellTally
 tally_answer width height r taken l =
-    cond (picture_ready width height r (length l)) (A.Of (tallied taken (held_cells width r (meanings l)))) A.Outside
+    cond (picture_ready width height r (length l)) (Some (tallied taken (held_cells width r (meanings l)))) None
 
 -- a picture buffer with a byte for each cell, afterwards: what the cells show; any other is as it was
 unfoldable pub drawn_bytes : ℕ → List ℕ → List ℕ → List ℕ

@@ -1,5 +1,5 @@
 -- What the private functions of rows ensure and ask for, row by row and code by code: the public contracts do not speak of it.
-use Rattle.std.specs.Prelude.{Bool, cond, ◌&&◌, ℕ, ◌+◌, ◌-◌, ◌*◌, ◌/◌, ◌%◌, ◌^◌, ◌≤◌, ◌<◌, leb, ltb, eqb}
+use Rattle.std.specs.Prelude.{Bool, cond, ◌&&◌, List, take, drop, ℕ, ◌+◌, ◌-◌, ◌*◌, ◌/◌, ◌%◌, ◌^◌, ◌≤◌, ◌<◌, leb, ltb, eqb}
 use Rattle.image.specs.declared.Op.{Op}
 use Rattle.image.specs.declared.PixelRange.{PixelRange}
 use Rattle.image.specs.declared.CellTally.{CellTally}
@@ -15,6 +15,10 @@ pub record ReadyRows (width : ℕ) (r : PixelRange) (n : ℕ) : Type 0 where
   pub right : r.right ≤ width
   pub down : r.top ≤ r.bottom
   pub enough : r.bottom * width ≤ n
+
+-- the rectangle's part of a row of the cells
+abbrev pub row_cells : ℕ → PixelRange → ℕ → List ℕ → List ℕ
+row_cells width r row l = take (row * width + r.right - (row * width + r.left)) (drop (row * width + r.left) l)
 
 -- two counts together
 abbrev pub tally_sum : CellTally → CellTally → CellTally

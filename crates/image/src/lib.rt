@@ -1,7 +1,7 @@
 // The picture's cells: what a cell means and reads, which cells a block covers, and what is done to a rectangle of them.
 // Document 01, "Picture and step": rows from the top, y from the bottom. The numbers that stand for True and given up appear in this crate only.
 // What takes a rectangle takes any, and any cells: where the rectangle leaves the picture, or the cells are fewer than the pixels, it changes
-// nothing and says so, and cells beyond the pixels are never read or written. `cells_hold` and `draw` take no rectangle but all cells that are lent.
+// nothing and says so (`false` or `None`), and cells beyond the pixels are never read or written. `cells_hold` and `draw` take no rectangle but all cells that are lent.
 #![tactic(auto)]
 
 ghost use Rattle.std.specs.Prelude.{◌≡◌, ◌+◌, ◌-◌, ◌^◌, ◌≤◌, ◌<◌, min, eqb, length};
@@ -9,10 +9,12 @@ ghost use Rattle.image.specs.Cell.{meaning_of, meanings, nameable, reading, of_k
 ghost use Rattle.image.specs.Range.{first_pixel, rectangle_of, whole_picture, picture_ready};
 ghost use Rattle.image.specs.Painting.{paintable, painted_cells, some_of, some_seen, all_true_seen, tally_answer, drawn_bytes};
 
+mod region;
 mod rows;
 mod stretches;
 
 use coordinate::{Coordinate, PIXEL_RANK};
+use region::Region;
 
 // The code of a cell that is True; smaller numbers name blocks.
 const TRUE: u64 = 4294967296;
@@ -20,7 +22,7 @@ const TRUE: u64 = 4294967296;
 const GIVEN_UP: u64 = 4294967297;
 
 // What a pixel shows.
-#[derive(Clone, Copy)]
+#[derive(Clone, Copy, Debug, PartialEq, Eq)]
 pub enum Reading {
     // No solution is left to be found.
     False,
@@ -31,7 +33,7 @@ pub enum Reading {
 }
 
 // What happens to each cell of a rectangle.
-#[derive(Clone, Copy)]
+#[derive(Clone, Copy, Debug, PartialEq, Eq)]
 pub enum Op {
     // A solution was found.
     Mark,
@@ -44,7 +46,7 @@ pub enum Op {
 }
 
 // What is looked for in a rectangle.
-#[derive(Clone, Copy)]
+#[derive(Clone, Copy, Debug, PartialEq, Eq)]
 pub enum CellKind {
     // Anything but True.
     Unmarked,
@@ -54,17 +56,9 @@ pub enum CellKind {
     Damaged,
 }
 
-// Whether a rectangle holds it; `Outside` where the rectangle or the cells do not fit the picture.
-#[derive(Clone, Copy)]
-pub enum Seen {
-    Yes,
-    No,
-    Outside,
-}
-
 // Columns left to right and rows top to bottom, the last of each left out. Rows count from the top.
 #[repr(C)]
-#[derive(Clone, Copy)]
+#[derive(Clone, Copy, Debug, PartialEq, Eq)]
 pub struct PixelRange {
     pub left: usize,
     pub right: usize,
@@ -74,19 +68,12 @@ pub struct PixelRange {
 
 // How many cells read True, False and Uncertain, and how many are given up (these read Uncertain too).
 #[repr(C)]
-#[derive(Clone, Copy)]
+#[derive(Clone, Copy, Debug, Default, PartialEq, Eq)]
 pub struct CellTally {
     pub trues: u64,
     pub falses: u64,
     pub uncertain: u64,
     pub givenup: u64,
-}
-
-// The counts of a rectangle.
-#[derive(Clone, Copy)]
-pub enum CellTallyAnswer {
-    Of(CellTally),
-    Outside,
 }
 
 // What a cell reads when so many blocks have been taken.
@@ -145,19 +132,13 @@ pub fn rectangle(x: Coordinate, y: Coordinate, width: u32, height: u32) -> Pixel
     }
 }
 
-fn smaller(a: u64, b: u64) -> u64
-    ensures { result ≡ min a b }
-{
-    if a <= b { a } else { b }
-}
-
 // The pixel that a coordinate begins in, or the side's end. From rank 80 up a coordinate is longer than every side.
 fn first_pixel(index: u64, rank: u8, side: u64) -> u64
     requires { side < 4294967296 }
     ensures { result ≡ first_pixel side rank index }
 {
     if rank < PIXEL_RANK {
-        return smaller(index >> (PIXEL_RANK - rank), side);
+        return (index >> (PIXEL_RANK - rank)).min(side);
     }
     if index == 0 {
         return 0;
@@ -165,7 +146,7 @@ fn first_pixel(index: u64, rank: u8, side: u64) -> u64
     if (4294967296 <= index) | (80 <= rank) {
         return side;
     }
-    smaller(index << (rank - PIXEL_RANK), side)
+    (index << (rank - PIXEL_RANK)).min(side)
 }
 
 // The pixel after the last that a coordinate covers, or the side's end.
@@ -174,16 +155,16 @@ fn past_pixel(first: u64, rank: u8, side: u64) -> u64
     ensures { result ≡ min (first + 2 ^ (rank - 48)) side }
 {
     if rank <= PIXEL_RANK {
-        return smaller(first + 1, side);
+        return (first + 1).min(side);
     }
     if 80 <= rank {
         return side;
     }
-    smaller(first + (1 << (rank - PIXEL_RANK)), side)
+    (first + (1 << (rank - PIXEL_RANK))).min(side)
 }
 
 // Whether the rectangle lies in the picture and every pixel has a cell.
-fn is_ready(width: u32, height: u32, r: PixelRange, count: usize) -> bool
+pub fn is_ready(width: u32, height: u32, r: PixelRange, count: usize) -> bool
     ensures { result ≡ picture_ready width height r count }
 {
     (r.left <= r.right)
@@ -198,10 +179,8 @@ fn is_nameable(op: Op) -> bool
     ensures { result ≡ nameable op }
 {
     match op {
-        Op::Mark => true,
-        Op::Name { from: _, to } => to < TRUE,
-        Op::GiveUp => true,
-        Op::Fill { to } => to < TRUE,
+        Op::Name { from: _, to } | Op::Fill { to } => to < TRUE,
+        Op::Mark | Op::GiveUp => true,
     }
 }
 
@@ -221,14 +200,11 @@ pub fn paint(cells: &mut [u64], width: u32, height: u32, r: PixelRange, op: Op) 
 }
 
 // Whether every cell of the rectangle is True.
-pub fn are_all_true(cells: &[u64], width: u32, height: u32, r: PixelRange) -> Seen
+pub fn are_all_true(cells: &[u64], width: u32, height: u32, r: PixelRange) -> Option<bool>
     ensures { result ≡ all_true_seen width height r cells.now }
 {
-    match rectangle_holds(cells, width, height, r, CellKind::Unmarked) {
-        Seen::Yes => Seen::No,
-        Seen::No => Seen::Yes,
-        Seen::Outside => Seen::Outside,
-    }
+    let unmarked = rectangle_holds(cells, width, height, r, CellKind::Unmarked)?;
+    Some(!unmarked)
 }
 
 // Whether a cell of the rectangle is of a kind.
@@ -238,42 +214,33 @@ pub fn rectangle_holds(
     height: u32,
     r: PixelRange,
     kind: CellKind,
-) -> Seen
+) -> Option<bool>
     ensures { result ≡ some_seen width height r kind cells.now }
 {
-    if !is_ready(width, height, r, cells.len()) {
-        return Seen::Outside;
-    }
-    if rows::find_in_rows(cells, width as usize, r, kind) {
-        Seen::Yes
-    } else {
-        Seen::No
-    }
+    let region = Region::of(cells, width, height, r)?;
+    Some(rows::find_in_rows::<false>(region, kind))
 }
 
 // The same, fastest where the rows have sixteen cells, as those of a tile; `rectangle_holds` is for rectangles of one cell or few.
-pub fn tile_holds(cells: &[u64], width: u32, height: u32, r: PixelRange, kind: CellKind) -> Seen
+pub fn tile_holds(
+    cells: &[u64],
+    width: u32,
+    height: u32,
+    r: PixelRange,
+    kind: CellKind,
+) -> Option<bool>
     ensures { result ≡ some_seen width height r kind cells.now }
 {
-    if !is_ready(width, height, r, cells.len()) {
-        return Seen::Outside;
-    }
-    if rows::find_in_tile(cells, width as usize, r, kind) {
-        Seen::Yes
-    } else {
-        Seen::No
-    }
+    let region = Region::of(cells, width, height, r)?;
+    Some(rows::find_in_rows::<true>(region, kind))
 }
 
 // The counts of the rectangle when so many blocks have been taken.
-pub fn count(cells: &[u64], width: u32, height: u32, r: PixelRange, taken: u64) -> CellTallyAnswer
+pub fn count(cells: &[u64], width: u32, height: u32, r: PixelRange, taken: u64) -> Option<CellTally>
     ensures { result ≡ tally_answer width height r taken cells.now }
 {
-    if is_ready(width, height, r, cells.len()) {
-        let tally = rows::count_rectangle(cells, width as usize, r, taken);
-        return CellTallyAnswer::Of(tally);
-    }
-    CellTallyAnswer::Outside
+    let region = Region::of(cells, width, height, r)?;
+    Some(rows::count_rectangle(region, taken))
 }
 
 // The settled pixels in thousandths of all, rounded down: 1000 says that every pixel is settled. Of no pixels it is 0.
@@ -299,7 +266,7 @@ pub fn draw(cells: &[u64], taken: u64, out: &mut [u8]) -> bool
     ensures out_after { out.new ≡ drawn_bytes taken cells.now out.old }
 {
     if cells.len() == out.len() {
-        stretches::draw_stretch(cells, smaller(taken, TRUE), out);
+        stretches::draw_stretch(cells, taken.min(TRUE), out);
         return true;
     }
     false

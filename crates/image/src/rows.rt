@@ -6,8 +6,10 @@ ghost use Rattle.image.specs.RowsComputed.{touched, ReadyRows, tile_shaped, tall
 ghost use Rattle.image.specs.RowsComputed.{settled_weight, false_weight, untaken_tally};
 ghost use Rattle.image.specs.Painting.{painted, held_cells, some_of};
 
+use crate::region::Region;
 use crate::{CellKind, CellTally, GIVEN_UP, Op, PixelRange, Reading, TRUE, read_cell};
 
+// By the rows' numbers: each makes the slice that is lent.
 pub(crate) fn paint_rows(cells: &mut [u64], width: usize, r: PixelRange, op: Op)
     requires { ReadyRows width r (length cells.old) }
     ensures { cells.new ≡ codes (painted width r op (meanings cells.old)) }
@@ -33,19 +35,20 @@ fn paint_row(row: &mut [u64], op: Op)
     }
 }
 
+// A loop and not `fill`, which takes a fifth more instructions for a row of 16 cells and more for shorter ones.
 fn fill_row(row: &mut [u64], code: u64)
     ensures { row.new ≡ map (λ (n : ℕ). code) row.old }
 {
-    for i in 0..row.len() {
-        row[i] = code;
+    for cell in row.iter_mut() {
+        *cell = code;
     }
 }
 
 fn name_row(row: &mut [u64], from: u64, to: u64)
     ensures { row.new ≡ map (touched (Op.Name from to)) row.old }
 {
-    for i in 0..row.len() {
-        row[i] = name_cell(row[i], from, to);
+    for cell in row.iter_mut() {
+        *cell = name_cell(*cell, from, to);
     }
 }
 
@@ -59,60 +62,40 @@ fn name_cell(cell: u64, from: u64, to: u64) -> u64
     }
 }
 
-pub(crate) fn find_in_rows(cells: &[u64], width: usize, r: PixelRange, kind: CellKind) -> bool
-    requires { ReadyRows width r (length cells.now) }
-    ensures { result ≡ some_of (of_kind kind) (held_cells width r (meanings cells.now)) }
+// Row by row. With `TILE` the compiler writes out each pass over a row of sixteen cells, which is fastest for the rows of a tile; without, this is
+// compiled into its callers, which look at one cell at a time.
+pub(crate) fn find_in_rows<const TILE: bool>(v: Region<'_>, kind: CellKind) -> bool
+    ensures { result ≡ some_of (of_kind kind) (held_cells v.entry.width v.entry.r (meanings v.entry.cells.now)) }
 {
-    let left = r.left;
-    let right = r.right;
-    let bottom = r.bottom;
-    for row in r.top..bottom {
-        let start = row * width + left;
-        let end = row * width + right;
-        if find_in_row(&cells[start..end], kind) {
+    for row in v.r.top..v.r.bottom {
+        if find_in_one::<TILE>(v.row(row), kind) {
             return true;
         }
     }
     false
 }
 
+fn find_in_one<const TILE: bool>(row: &[u64], kind: CellKind) -> bool
+    ensures { result ≡ some_of (of_kind kind) (meanings row.now) }
+{
+    if TILE {
+        if let Some(sixteen) = row.as_array::<16>() {
+            return find_in_row(sixteen, kind);
+        }
+    }
+    find_in_row(row, kind)
+}
+
+// A loop and not `any`, which takes six instructions a cell where this takes five.
 pub(crate) fn find_in_row(row: &[u64], kind: CellKind) -> bool
     ensures { result ≡ some_of (of_kind kind) (meanings row.now) }
 {
-    for i in 0..row.len() {
-        if is_of(kind, row[i]) {
+    for cell in row {
+        if is_of(kind, *cell) {
             return true;
         }
     }
     false
-}
-
-// As `find_in_rows`, for the rows of a tile. With this in it that one would no longer be compiled into its callers, which look at one cell at a time.
-pub(crate) fn find_in_tile(cells: &[u64], width: usize, r: PixelRange, kind: CellKind) -> bool
-    requires { ReadyRows width r (length cells.now) }
-    ensures { result ≡ some_of (of_kind kind) (held_cells width r (meanings cells.now)) }
-{
-    let left = r.left;
-    let right = r.right;
-    let bottom = r.bottom;
-    for row in r.top..bottom {
-        let start = row * width + left;
-        let end = row * width + right;
-        if find_in_tile_row(&cells[start..end], kind) {
-            return true;
-        }
-    }
-    false
-}
-
-// Where the compiler knows that there are sixteen cells it writes out each pass of the loop over them.
-fn find_in_tile_row(row: &[u64], kind: CellKind) -> bool
-    ensures { result ≡ some_of (of_kind kind) (meanings row.now) }
-{
-    if row.len() == 16 {
-        return find_in_row(&row[0..16], kind);
-    }
-    find_in_row(row, kind)
 }
 
 fn is_of(kind: CellKind, cell: u64) -> bool
@@ -126,26 +109,23 @@ fn is_of(kind: CellKind, cell: u64) -> bool
 }
 
 // The rows of a tile are counted together, other rows one by one.
-pub(crate) fn count_rectangle(cells: &[u64], width: usize, r: PixelRange, taken: u64) -> CellTally
-    requires { ReadyRows width r (length cells.now) }
-    ensures { result ≡ tallied taken (held_cells width r (meanings cells.now)) }
+pub(crate) fn count_rectangle(v: Region<'_>, taken: u64) -> CellTally
+    ensures { result ≡ tallied taken (held_cells v.entry.width v.entry.r (meanings v.entry.cells.now)) }
 {
-    if is_tile_shaped(r) & (0 < taken) & (taken < TRUE) {
-        return count_tile(cells, width, r, (taken - 1) as u32);
+    if is_tile_shaped(v) & (0 < taken) & (taken < TRUE) {
+        return count_tile(v, (taken - 1) as u32);
     }
-    count_others(cells, width, r, taken)
+    count_others(v, taken)
 }
 
 // A tile at the start of a picture, and what is no tile.
-fn count_others(cells: &[u64], width: usize, r: PixelRange, taken: u64) -> CellTally
-    requires { ReadyRows width r (length cells.now) }
-    ensures { result ≡ tallied taken (held_cells width r (meanings cells.now)) }
+fn count_others(v: Region<'_>, taken: u64) -> CellTally
+    ensures { result ≡ tallied taken (held_cells v.entry.width v.entry.r (meanings v.entry.cells.now)) }
 {
-    if is_tile_shaped(r) & (taken == 0) {
-        let tally = count_tile(cells, width, r, 0);
-        return untaken(tally);
+    if is_tile_shaped(v) & (taken == 0) {
+        return untaken(count_tile(v, 0));
     }
-    count_rows(cells, width, r, taken)
+    count_rows(v, taken)
 }
 
 // The counts when no block has been taken from those when one has.
@@ -161,36 +141,26 @@ fn untaken(t: CellTally) -> CellTally
     }
 }
 
-fn is_tile_shaped(r: PixelRange) -> bool
-    requires { (r.left ≤ r.right) × (r.top ≤ r.bottom) }
-    ensures { result ≡ tile_shaped r }
+fn is_tile_shaped(v: Region<'_>) -> bool
+    ensures { result ≡ tile_shaped v.entry.r }
 {
-    (r.right - r.left == 16) & (r.bottom - r.top <= 16)
+    (v.r.right - v.r.left == 16) & (v.r.bottom - v.r.top <= 16)
 }
 
 // The counts of up to 256 cells are summed in one number: that is taken apart once and not for each row.
 // `last` is the last block that has been taken. The way out is never gone: with it the compiler adds cells of one row, not cells of four rows.
-fn count_tile(cells: &[u64], width: usize, r: PixelRange, last: u32) -> CellTally
-    requires { ReadyRows width r (length cells.now) × (tile_shaped r ≡ true) }
-    ensures { result ≡ tallied (last + 1) (held_cells width r (meanings cells.now)) }
+fn count_tile(v: Region<'_>, last: u32) -> CellTally
+    requires { tile_shaped v.r ≡ true }
+    ensures { result ≡ tallied (last + 1) (held_cells v.entry.width v.entry.r (meanings v.entry.cells.now)) }
 {
-    let left = r.left;
-    let top = r.top;
-    let bottom = r.bottom;
     let mut packed: u32 = 0;
-    for row in top..bottom {
-        let start = row * width + left;
-        packed = packed + pack_row(&cells[start..start + 16], last);
+    for row in v.r.top..v.r.bottom {
+        packed += pack_row(&v.row(row)[..16], last);
         if 536870912 < packed {
-            return CellTally {
-                trues: 0,
-                falses: 0,
-                uncertain: 0,
-                givenup: 0,
-            };
+            return CellTally::default();
         }
     }
-    unpack(packed, 16 * (bottom - top) as u64)
+    unpack(packed, 16 * (v.r.bottom - v.r.top) as u64)
 }
 
 // The counts of a row in one number: in one sum of 32-bit numbers the compiler adds four cells at once.
@@ -198,11 +168,7 @@ fn pack_row(row: &[u64], last: u32) -> u32
     requires { length row.now ≤ 16 }
     ensures { result ≡ packed_tally (tallied (last + 1) (meanings row.now)) }
 {
-    let mut packed: u32 = 0;
-    for i in 0..row.len() {
-        packed = packed + pack_cell(row[i], last);
-    }
-    packed
+    row.iter().map(|cell| pack_cell(*cell, last)).sum()
 }
 
 // What a cell adds: its two halves are compared, since 64-bit numbers are compared one by one.
@@ -252,23 +218,12 @@ fn unpack(packed: u32, cells: u64) -> CellTally
     }
 }
 
-fn count_rows(cells: &[u64], width: usize, r: PixelRange, taken: u64) -> CellTally
-    requires { ReadyRows width r (length cells.now) }
-    ensures { result ≡ tallied taken (held_cells width r (meanings cells.now)) }
+fn count_rows(v: Region<'_>, taken: u64) -> CellTally
+    ensures { result ≡ tallied taken (held_cells v.entry.width v.entry.r (meanings v.entry.cells.now)) }
 {
-    let left = r.left;
-    let right = r.right;
-    let bottom = r.bottom;
-    let mut tally = CellTally {
-        trues: 0,
-        falses: 0,
-        uncertain: 0,
-        givenup: 0,
-    };
-    for row in r.top..bottom {
-        let start = row * width + left;
-        let end = row * width + right;
-        tally = sum(tally, count_cells(&cells[start..end], taken));
+    let mut tally = CellTally::default();
+    for row in v.r.top..v.r.bottom {
+        tally = sum(tally, count_cells(v.row(row), taken));
     }
     tally
 }
@@ -276,14 +231,9 @@ fn count_rows(cells: &[u64], width: usize, r: PixelRange, taken: u64) -> CellTal
 fn count_cells(row: &[u64], taken: u64) -> CellTally
     ensures { result ≡ tallied taken (meanings row.now) }
 {
-    let mut tally = CellTally {
-        trues: 0,
-        falses: 0,
-        uncertain: 0,
-        givenup: 0,
-    };
-    for i in 0..row.len() {
-        tally = sum(tally, count_cell(row[i], taken));
+    let mut tally = CellTally::default();
+    for cell in row {
+        tally = sum(tally, count_cell(*cell, taken));
     }
     tally
 }
@@ -294,21 +244,16 @@ fn count_cell(cell: u64, taken: u64) -> CellTally
     match read_cell(cell, taken) {
         Reading::True => CellTally {
             trues: 1,
-            falses: 0,
-            uncertain: 0,
-            givenup: 0,
+            ..CellTally::default()
         },
         Reading::False => CellTally {
-            trues: 0,
             falses: 1,
-            uncertain: 0,
-            givenup: 0,
+            ..CellTally::default()
         },
         Reading::Uncertain => CellTally {
-            trues: 0,
-            falses: 0,
             uncertain: 1,
             givenup: (cell == GIVEN_UP) as u64,
+            ..CellTally::default()
         },
     }
 }

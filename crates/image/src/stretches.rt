@@ -10,18 +10,11 @@ use crate::{CellKind, TRUE};
 pub(crate) fn find_in_stretch(cells: &[u64], kind: CellKind) -> bool
     ensures { result ≡ some_of (of_kind kind) (meanings cells.now) }
 {
-    let count = cells.len();
-    for part in 0..count / 16 {
-        let start = 16 * part;
-        let end = start + 16;
-        if find_in_row(&cells[start..end], kind) {
-            return true;
-        }
-    }
-    let done = 16 * (count / 16);
-    find_in_row(&cells[done..count], kind)
+    let (parts, rest) = cells.as_chunks::<16>();
+    parts.iter().any(|part| find_in_row(part, kind)) || find_in_row(rest, kind)
 }
 
+// By the places of the parts: `as_chunks_mut` says what it lends, and not what the slice holds once the parts are given back.
 pub(crate) fn draw_stretch(cells: &[u64], taken: u64, out: &mut [u8])
     requires { (length cells.now ≡ length out.old) × (taken ≤ true_code) }
     ensures { out.new ≡ map (shown_byte taken) cells.now }
@@ -40,8 +33,8 @@ fn draw_part(cells: &[u64], taken: u64, out: &mut [u8])
     requires { (length cells.now ≡ length out.old) × (taken ≤ true_code) }
     ensures { out.new ≡ map (shown_byte taken) cells.now }
 {
-    for i in 0..cells.len() {
-        out[i] = byte_of(cells[i], taken);
+    for (i, cell) in cells.iter().enumerate() {
+        out[i] = byte_of(*cell, taken);
     }
 }
 

@@ -10,12 +10,12 @@ use native.Mathlib.Decide.{dec_lt}
 use lib.ListN.{length, get_or}
 use lib.ListN as L
 use borrow.Author.Tests.{lt-ltb, le-leb}
+use Rattle.std.specs.Prelude.{Some}
 use Rattle.base.specs.Event.{Event, marks, queues, gives_up, queued_by}
 use Rattle.base.specs.Lists.{Every}
 use Rattle.image.specs.declared.Op.{Op}
 use Rattle.image.specs.declared.Op.TheVariants as O
 use Rattle.image.specs.declared.PixelRange.{PixelRange}
-use Rattle.image.specs.declared.Seen.TheVariants as Sn
 use Rattle.image.specs.Cell.{Cell, Named, Marked, GivenUp, Other, meanings, meaning_of, codes, done_to, nameable, is_damaged, of_kind}
 use Rattle.image.specs.Range.{holds_cell, rectangle_of, in_picture, picture_ready, whole_picture}
 use Rattle.image.specs.Painting.{map_at, painted, pixel_cell, held_cells, some_of, every_of, some_seen}
@@ -146,7 +146,7 @@ whole_held p r l inside k =
 
 -- nor one in a tile that a rectangle touches
 pub whole_touched : (p : Chosen) (r : PixelRange) (cells : List ℕ) → in_picture p.width p.height r ≡ true → pixel_count p ≤ length cells
-    → PixelsWhole p (meanings cells) → touched_damaged p.width p.height r cells ≡ Sn.No
+    → PixelsWhole p (meanings cells) → touched_damaged p.width p.height r cells ≡ Some false
 unfolding touched_damaged some_seen of_kind picture_ready
 whole_touched p r cells inside enough k =
     let all = touched_tiles p.width p.height r in

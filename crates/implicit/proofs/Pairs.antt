@@ -1,6 +1,7 @@
 -- Where document 01 permits two readings they come to the same. One law a pair, over the definitions that the contracts cite, each proved
 -- where it belongs and cited here. Pairs about numbers, intervals and codes stand in `coordinate`, `interval` and `small`; those about the whole
 -- of a run (given up now or ever, a number that waits and a block that waits) in `theory`. Assumes nothing.
+use Rattle.queue.specs.Queue.{front_taken}
 use mathlib.Core.Path.{◌≡◌, ap, ◌∙◌}
 use mathlib.Core.Bool.{Bool, true, false, not}
 use mathlib.Core.List.{List}
@@ -9,6 +10,7 @@ use native.Mathlib.Omega.{arith}
 use lib.Dec.{ltb, eqb}
 use lib.ListN.{length}
 use borrow.Author.Tests.{le-leb, eq-eqb}
+use Rattle.std.specs.Prelude.{Ok}
 use Rattle.base.proofs.Test.{and_left, and_right, and_both, both_ways}
 use Rattle.coordinate.specs.declared.Coordinate.{Coordinate}
 use Rattle.coordinate.specs.Axis.{ordinary_floor, pixel, inside}
@@ -17,7 +19,6 @@ use Rattle.coordinate.proofs.PixelLaws.{inside_pixel, inside_in_range}
 use Rattle.image.specs.Cell.{Cell, meanings, codes}
 use Rattle.queue.specs.declared.Block.{Block}
 use Rattle.queue.specs.declared.Last.{Last}
-use Rattle.queue.specs.declared.Taken.TheVariants as T
 use Rattle.decide.specs.declared.Chosen.{Chosen}
 use Rattle.decide.specs.declared.verdict.Outcome.{Outcome}
 use Rattle.decide.specs.declared.verdict.Outcome.TheVariants as O
@@ -31,7 +32,6 @@ use Rattle.decide.proofs.VerdictLaws.{later_points}
 use Rattle.plan.proofs.InOrder.{at_once, at_once_lem}
 use Rattle.plan.proofs.GiveUpLaws.{cells_own, give_up_own, queued_first, give_ups_last}
 use Rattle.implicit.specs.declared.state.State.{State}
-use Rattle.implicit.specs.declared.state.CallAnswer.TheVariants as D
 use Rattle.implicit.specs.declared.state.Ending.TheVariants as E
 use Rattle.implicit.specs.declared.state.Ranges.{Ranges}
 use Rattle.implicit.specs.Answers.{needed_bytes}
@@ -93,7 +93,7 @@ pub sibling_order : (p : Chosen) (b : Block) (number new : ℕ) (os : List Outco
 sibling_order = give_ups_last
 
 -- a single step, or a step on a tape that holds no more than its verdicts
-pub single_or_tape : (w : World) (vs : List ℕ) (b : Block) (last : Last) (head used : ℕ) → front_of w.state w.ring ≡ T.Front b last head used
+pub single_or_tape : (w : World) (vs : List ℕ) (b : Block) (last : Last) (head used : ℕ) → front_of w.state w.ring ≡ front_taken b last head used
     → length vs ≡ length (children_of w.state.chosen b) → step_of w vs ≡ tape_step_of w vs
 unfolding step_with after_taking
 single_or_tape w vs b last head used f h =
@@ -104,7 +104,7 @@ single_or_tape w vs b last head used f h =
 pub listed_as_judged : (tape : Bool) (w : World) (vs : List ℕ) (left : World) (e n : ℕ) (h : step_with tape w vs ≡ finished left e n)
     → (let b = (went tape w vs left e n h).block in
     let cs = children_of w.state.chosen b in
-    (children_listed w.state w.ring ≡ record { answer = D.Done; children = listed b cs }) × (n ≡ length cs))
+    (children_listed w.state w.ring ≡ Ok (listed b cs)) × (n ≡ length cs))
 unfolding children_listed listed_block
 listed_as_judged tape w vs left e n h =
     let g = went tape w vs left e n h in

@@ -8,31 +8,28 @@ use native.Mathlib.Omega.{arith}
 use lib.Dec.{leb}
 use lib.ListN.{length, take, drop, length-drop}
 use borrow.Author.Tests.{le-leb, lt-leb}
+use Rattle.std.specs.Prelude.{Result, Ok, Err, Option, Some}
+use Rattle.std.specs.Option.{unwrap_or}
 use Rattle.base.proofs.Test.{cases}
 use Rattle.refusal.specs.declared.Refusal.{Refusal}
 use Rattle.refusal.specs.declared.Refusal.TheVariants as R
-use Rattle.image.specs.declared.Seen.{Seen}
-use Rattle.image.specs.declared.Seen.TheVariants as S
 use Rattle.image.specs.declared.CellKind.TheVariants as K
 use Rattle.image.specs.declared.PixelRange.{PixelRange}
 use Rattle.image.specs.Cell.{is_given_up, of_kind}
 use Rattle.image.specs.Range.{whole_picture, in_picture, picture_ready}
-use Rattle.image.specs.Painting.{some_of, seen_if, some_seen}
+use Rattle.image.specs.Painting.{some_of, some_seen}
 use Rattle.queue.proofs.QueueAnswers.{denied, granted}
 use Rattle.queue.proofs.RingLaws.{rest_all}
 use Rattle.decide.specs.declared.Chosen.{Chosen}
 use Rattle.implicit.specs.declared.state.State.{State}
-use Rattle.implicit.specs.declared.state.StepAnswer.{StepAnswer}
-use Rattle.implicit.specs.declared.state.StepAnswer.TheVariants as St
-use Rattle.implicit.specs.declared.state.Ending.{Ending}
 use Rattle.implicit.specs.declared.state.Ending.TheVariants as E
-use Rattle.implicit.specs.declared.state.RunAnswer.{RunAnswer}
-use Rattle.implicit.specs.declared.state.RunAnswer.TheVariants as A
-use Rattle.implicit.specs.declared.running.Progress.{Progress}
+use Rattle.implicit.specs.declared.state.Refused.{Refused}
+use Rattle.implicit.specs.declared.state.Finished as Step
+use Rattle.implicit.specs.declared.state.Ended.{Ended}
 use Rattle.implicit.specs.Record.{pixel_count, pixel_cells, sound_record, queue_empty}
 use Rattle.implicit.specs.Step.{World, world_of, StepEnd, refused, finished, tape_step_of, EndsAs}
 use Rattle.implicit.specs.Run.{RunEnd, ended_as, empty_ending, gone_on, run_from, run_of, RunsAs}
-use Rattle.implicit.specs.RunComputed.{halted, stepped, progress_after, next_step, SoundByUse, Tried, RunTo}
+use Rattle.implicit.specs.RunComputed.{HowFar, halted, stepped, progress_after, next_step, SoundByUse, ended_by, Tried, RunTo}
 use Rattle.implicit.proofs.RunLoop.{RunsBy}
 use Rattle.implicit.proofs.StepLawsKept.{LastHeld}
 use Rattle.implicit.proofs.StepLawsWent.{step_few, step_stays}
@@ -122,37 +119,37 @@ runs_plainly = record {
 -- BY THE TESTS THAT THE CODE MAKES
 
 -- the part of the tape from here on is its rest
-pub step_rest : (p : Progress) (ring cells tape : List ℕ) (a : StepAnswer) (ring' cells' : List ℕ)
+pub step_rest : (p : HowFar) (ring cells tape : List ℕ) (a : Result Step.Finished Refused) (ring' cells' : List ℕ)
     → EndsAs (world_of p.state ring cells) (tape_step_of (world_of p.state ring cells) (take (length tape - p.tape) (drop p.tape tape))) a ring' cells'
     → EndsAs (world_of p.state ring cells) (next_step p ring cells tape) a ring' cells'
 step_rest p ring cells tape a ring' cells' h = rw (rest_all tape p.tape) at h
 
 -- a step that is the next one, or that leaves what the next one leaves, where it is finished
-abbrev pub AsNext : Progress → List ℕ → List ℕ → List ℕ → StepEnd → Type 0
+abbrev pub AsNext : HowFar → List ℕ → List ℕ → List ℕ → StepEnd → Type 0
 AsNext p ring cells tape next = (left : World) (e n : ℕ) → next ≡ finished left e n → next_step p ring cells tape ≡ finished left e n
 
-pub next_itself : (p : Progress) (ring cells tape : List ℕ) → AsNext p ring cells tape (next_step p ring cells tape)
+pub next_itself : (p : HowFar) (ring cells tape : List ℕ) → AsNext p ring cells tape (next_step p ring cells tape)
 next_itself p ring cells tape left e n h = h
 
-module _ (p : Progress) (ring cells tape : List ℕ) (next : StepEnd) (plain : AsNext p ring cells tape next) (a : StepAnswer) (ring' cells' : List ℕ)
+module _ (p : HowFar) (ring cells tape : List ℕ) (next : StepEnd) (plain : AsNext p ring cells tape next) (a : Result Step.Finished Refused) (ring' cells' : List ℕ)
     (ends : EndsAs (world_of p.state ring cells) next a ring' cells') where
   abbrev here : World
   here = world_of p.state ring cells
 
-  pub step_stop : (why : Refusal) (t : State) (r : Progress) → a ≡ St.Refused why t → r ≡ halted p (E.Stop why) → SoundByUse (length ring) p.state
+  pub step_stop : (why : Refusal) (t : State) (r : HowFar) → a ≡ Err (record { why = why; state = t }) → r ≡ halted p (E.Stop why) → SoundByUse (length ring) p.state
       → Tried p here next r ring' cells'
   step_stop why t r f g h =
       let s = (answered_refused here next why t ring' cells' (rw f at ends)).0 in
       (g ∙ sym (ap (progress_after p) s), rw (g, ends.1, ends.2, s), rw (g, ends.1, s) h)
 
-  module _ (t : State) (evals bytes : ℕ) (f : a ≡ St.Finished t evals bytes) where
+  module _ (t : State) (evals bytes : ℕ) (f : a ≡ Ok (record { state = t; evaluations = evals; verdicts = bytes })) where
     is_finished : next ≡ finished (world_of t ring' cells') evals bytes
     is_finished = answered_finished here next t evals bytes ring' cells' (rw f at ends)
 
     as_next : next_step p ring cells tape ≡ finished (world_of t ring' cells') evals bytes
     as_next = plain (world_of t ring' cells') evals bytes is_finished
 
-    pub step_on : (r : Progress) → r ≡ stepped p t evals bytes → LastHeld p.state.front → Tried p here next r ring' cells'
+    pub step_on : (r : HowFar) → r ≡ stepped p t evals bytes → LastHeld p.state.front → Tried p here next r ring' cells'
     step_on r g held =
         let sound = step_sound true here (drop p.tape tape) (world_of t ring' cells') evals bytes held as_next in
         (rw (g, is_finished), rw (g, is_finished), rw g sound)
@@ -165,7 +162,7 @@ module _ (p : Progress) (ring cells tape : List ℕ) (next : StepEnd) (plain : A
 
 -- the ending of an empty queue, by what is seen of given-up cells
 seen_abandoned : (p : Chosen) (cells : List ℕ) → leb (pixel_count p) (length cells) ≡ true
-    → some_seen p.width p.height (whole_picture p.width p.height) K.GivenUp cells ≡ seen_if (some_of is_given_up (pixel_cells p cells))
+    → some_seen p.width p.height (whole_picture p.width p.height) K.GivenUp cells ≡ Some (some_of is_given_up (pixel_cells p cells))
 unfolding some_seen of_kind picture_ready in_picture
 seen_abandoned p cells h =
     let a = le-leb 0 p.width (omega arith) in
@@ -174,29 +171,19 @@ seen_abandoned p cells h =
     let d = le-leb p.height p.height (omega arith) in
     rw (a, b, c, d, h)
 
-abbrev pub ending_seen : Seen → Ending
-ending_seen S.Yes = E.Limit
-ending_seen S.No = E.Done
-ending_seen S.Outside = E.Done
-
-seen_ending : (t : Bool) → ending_seen (seen_if t) ≡ cond t E.Limit E.Done
-seen_ending true = refl
-seen_ending false = refl
-
-pub ending_as : (p : Chosen) (cells : List ℕ) (x : PixelRange) (a v : Seen) → leb (pixel_count p) (length cells) ≡ true → x ≡ whole_picture p.width p.height
-    → a ≡ some_seen p.width p.height x K.GivenUp cells → a ≡ v → ending_seen v ≡ empty_ending p cells
-ending_as p cells x a v h e f g =
-    ap ending_seen (sym g ∙ f ∙ ap (λ (r : PixelRange). some_seen p.width p.height r K.GivenUp cells) e ∙ seen_abandoned p cells h)
-    ∙ seen_ending (some_of is_given_up (pixel_cells p cells))
+pub ending_as : (p : Chosen) (cells : List ℕ) (x : PixelRange) (a : Option Bool) (t : Bool) → leb (pixel_count p) (length cells) ≡ true
+    → x ≡ whole_picture p.width p.height → a ≡ some_seen p.width p.height x K.GivenUp cells → t ≡ unwrap_or a false
+    → cond t E.Limit E.Done ≡ empty_ending p cells
+ending_as p cells x a t h e f g = rw (g, f, e, seen_abandoned p cells h)
 
 -- the run itself
 module _ (budget : ℕ) (s : State) (ring cells tape : List ℕ) (t : Bool) (is_t : t ≡ sound_record (length ring) s) where
-  pub run_damaged : not t ≡ true → RunsAs (world_of s ring cells) (run_of budget (world_of s ring cells) tape) (A.Refused R.Damaged s) ring cells
+  pub run_damaged : not t ≡ true → RunsAs (world_of s ring cells) (run_of budget (world_of s ring cells) tape) (Err (record { why = R.Damaged; state = s })) ring cells
   unfolding run_of
   run_damaged h = let u : sound_record (length ring) s ≡ false = sym is_t ∙ denied t h in rw u (refl, refl, refl)
 
   module _ (h : not t ≡ false) (n : ℕ) (is_n : n ≡ pixel_count s.chosen) where
-    pub run_short : length cells < n → RunsAs (world_of s ring cells) (run_of budget (world_of s ring cells) tape) (A.Refused R.Cells s) ring cells
+    pub run_short : length cells < n → RunsAs (world_of s ring cells) (run_of budget (world_of s ring cells) tape) (Err (record { why = R.Cells; state = s })) ring cells
     unfolding run_of
     run_short k =
         let u : sound_record (length ring) s ≡ true = sym is_t ∙ granted t h in
@@ -212,14 +199,13 @@ module _ (budget : ℕ) (s : State) (ring cells tape : List ℕ) (t : Bool) (is_
     pub may_begin : n ≤ length cells → (leb (pixel_count s.chosen) (length cells) ≡ true) × (sound_record (length ring) s ≡ true)
     may_begin k = (run_enough k, run_sound)
 
-    pub run_done : n ≤ length cells → (p : Progress) (r : RunAnswer) (ring' cells' : List ℕ) → RunTo (run_from budget (world_of s ring cells) tape) p ring' cells'
-        → r ≡ A.Ended p.state p.steps p.evaluations p.tape p.ending
-        → RunsAs (world_of s ring cells) (run_of budget (world_of s ring cells) tape) r ring' cells'
+    pub run_done : n ≤ length cells → (p : HowFar) (r : Ended) (ring' cells' : List ℕ) → RunTo (run_from budget (world_of s ring cells) tape) p ring' cells'
+        → r ≡ ended_by p → RunsAs (world_of s ring cells) (run_of budget (world_of s ring cells) tape) (Ok r) ring' cells'
     unfolding run_of
     run_done k p r ring' cells' to e =
         let u : sound_record (length ring) s ≡ true = sym is_t ∙ granted t h in
         rw (u, run_enough k) (
-          e ∙ rw (ap (λ (x : World). x.state) to.world, to.steps, to.evaluations, to.tape, to.ending),
+          ap Ok e ∙ rw (ap (λ (x : World). x.state) to.world, to.steps, to.evaluations, to.tape, to.ending),
           ap (λ (x : World). x.ring) to.world,
           ap (λ (x : World). x.cells) to.world,
         )

@@ -12,11 +12,11 @@ use Rattle.base.proofs.Test.{cases, cond_yes}
 use Rattle.implicit.specs.declared.state.State.{State}
 use Rattle.implicit.specs.declared.state.Ending.{Ending}
 use Rattle.implicit.specs.declared.state.Ending.TheVariants as E
-use Rattle.implicit.specs.declared.running.Progress.{Progress}
 use Rattle.implicit.specs.Record.{pixel_count, queue_empty}
 use Rattle.implicit.specs.Step.{World, world_of, StepEnd, refused, finished, world_after}
 use Rattle.implicit.specs.Run.{RunEnd, ended_as, after_step, empty_ending, gone_on}
-use Rattle.implicit.specs.RunComputed.{halted, stepped, progress_after, progress_once, world_once, SoundByUse, OnceGone, Bounded, RunTo}
+use Rattle.implicit.specs.declared.running.Progress.{Progress}
+use Rattle.implicit.specs.RunComputed.{HowFar, going_on, stopped, halted, stepped, progress_after, progress_once, world_once, SoundByUse, OnceGone, Bounded, RunTo}
 use Rattle.implicit.proofs.StepLawsWent.{Stays}
 
 -- what the loop asks of a step on a tape, and of the run that takes such steps
@@ -32,7 +32,7 @@ pub record RunsBy (step : World → List ℕ → StepEnd) (runs : ℕ → World 
   pub stays : (w : World) (tape : List ℕ) (left : World) (e n : ℕ) → step w tape ≡ finished left e n → Stays w left
 
 -- how a run ended, with what was counted before
-abbrev counted : Progress → RunEnd → RunEnd
+abbrev counted : HowFar → RunEnd → RunEnd
 counted p e = record {
   world = e.world;
   steps = p.steps + e.steps;
@@ -42,8 +42,8 @@ counted p e = record {
 }
 
 -- what the loop keeps from one place to the next, and what falls; `whole` is all of the run from a place
-pub record LoopKept (whole : Progress → List ℕ → List ℕ → RunEnd) (budget : ℕ) (tape : List ℕ)
-    (p : Progress) (ring cells : List ℕ) (r : Progress) (ring' cells' : List ℕ) : Type 0 where
+pub record LoopKept (whole : HowFar → List ℕ → List ℕ → RunEnd) (budget : ℕ) (tape : List ℕ)
+    (p : HowFar) (ring cells : List ℕ) (r : HowFar) (ring' cells' : List ℕ) : Type 0 where
   pub bounded : Bounded budget tape r
   pub same_ring : length ring' ≡ length ring
   pub same_cells : length cells' ≡ length cells
@@ -53,19 +53,19 @@ pub record LoopKept (whole : Progress → List ℕ → List ℕ → RunEnd) (bud
   pub less : budget - r.steps + cond r.going 1 0 < budget - p.steps + cond p.going 1 0
 
 -- before the first step
-abbrev begun_with : State → Progress
+abbrev begun_with : State → HowFar
 begun_with s = record { state = s; steps = 0; evaluations = 0; tape = 0; ending = E.More; going = true }
 
 module _ (step : World → List ℕ → StepEnd) (runs : ℕ → World → List ℕ → RunEnd) where
   -- all of the run: what is left to do, on a world, with what was counted so far
-  abbrev whole_on : ℕ → Progress → World → List ℕ → RunEnd
+  abbrev whole_on : ℕ → HowFar → World → List ℕ → RunEnd
   whole_on budget p w tape = counted p (cond p.going (runs (budget - p.steps) w (drop p.tape tape)) (ended_as w p.ending))
 
-  unfoldable pub whole_run : ℕ → List ℕ → Progress → List ℕ → List ℕ → RunEnd
+  unfoldable pub whole_run : ℕ → List ℕ → HowFar → List ℕ → List ℕ → RunEnd
   whole_run budget tape p ring cells = whole_on budget p (world_of p.state ring cells) tape
 
   -- a step finished, and the rest
-  counted_more : (budget : ℕ) (p : Progress) (next : World) (evals bytes : ℕ) (tape : List ℕ) → p.steps < budget
+  counted_more : (budget : ℕ) (p : HowFar) (next : World) (evals bytes : ℕ) (tape : List ℕ) → p.steps < budget
       → whole_on budget (stepped p next.state evals bytes) next tape
       ≡ counted p (after_step evals bytes (runs (budget - p.steps - 1) next (drop bytes (drop p.tape tape))))
   counted_more budget p next evals bytes tape h =
@@ -77,7 +77,7 @@ module _ (step : World → List ℕ → StepEnd) (runs : ℕ → World → List 
       let c : p.tape + bytes + r.tape ≡ p.tape + (bytes + r.tape) = omega arith in
       rw (d, k, a, b, c)
 
-  module _ (laws : RunsBy step runs) (budget : ℕ) (tape : List ℕ) (p : Progress) (ring cells : List ℕ) (going : p.going ≡ true) where
+  module _ (laws : RunsBy step runs) (budget : ℕ) (tape : List ℕ) (p : HowFar) (ring cells : List ℕ) (going : p.going ≡ true) where
     abbrev here : World
     here = world_of p.state ring cells
 
@@ -120,7 +120,7 @@ module _ (step : World → List ℕ → StepEnd) (runs : ℕ → World → List 
     pass_on : whole_on budget (progress_once budget p cells next) (world_once budget p here next) tape ≡ whole_on budget p here tape
     pass_on = pass_rest ∙ sym (ap (counted p) (cond_yes p.going rest (ended_as here p.ending) going))
 
-    module _ (r : Progress) (ring' cells' : List ℕ) (is_r : r ≡ progress_once budget p cells next)
+    module _ (r : HowFar) (ring' cells' : List ℕ) (is_r : r ≡ progress_once budget p cells next)
         (is_world : world_of r.state ring' cells' ≡ world_once budget p here next) where
       -- what is left to do from here is what was to do
       pass_whole : whole_run budget tape r ring' cells' ≡ whole_run budget tape p ring cells
@@ -207,7 +207,7 @@ module _ (step : World → List ℕ → StepEnd) (runs : ℕ → World → List 
       let c : 0 + r.tape ≡ r.tape = omega arith in
       rw (z, a, b, c)
 
-  pub run_end : (budget : ℕ) (p : Progress) (ring cells tape : List ℕ) (e : RunEnd) → p.going ≡ false
+  pub run_end : (budget : ℕ) (p : HowFar) (ring cells tape : List ℕ) (e : RunEnd) → p.going ≡ false
       → whole_run budget tape p ring cells ≡ e → RunTo e p ring cells
   unfolding whole_run
   run_end budget p ring cells tape e f h =
@@ -223,28 +223,72 @@ module _ (step : World → List ℕ → StepEnd) (runs : ℕ → World → List 
         ending = ap (λ (x : RunEnd). x.ending) k;
       }
 
+  -- A PASS OF THE LOOP, which goes on or ends the run here
+
+  module _ (laws : RunsBy step runs) (budget : ℕ) (tape : List ℕ) (p : Progress) (ring cells : List ℕ)
+      (small : Bounded budget tape (going_on p)) (fits : leb (pixel_count p.state.chosen) (length cells) ≡ true) where
+    abbrev at : World
+    at = world_of p.state ring cells
+
+    abbrev coming : StepEnd
+    coming = step at (drop p.tape tape)
+
+    kept : (r : HowFar) (ring' cells' : List ℕ) → r ≡ progress_once budget (going_on p) cells coming
+        → world_of r.state ring' cells' ≡ world_once budget (going_on p) at coming
+        → LoopKept (whole_run budget tape) budget tape (going_on p) ring cells r ring' cells'
+    kept r ring' cells' e f = loop_kept laws budget tape (going_on p) ring cells refl r ring' cells' e f small fits
+
+    -- what a pass that goes on keeps, and what falls
+    pub record PassKept (q : Progress) (ring' cells' : List ℕ) : Type 0 where
+      pub bounded : Bounded budget tape (going_on q)
+      pub same_ring : length ring' ≡ length ring
+      pub same_cells : length cells' ≡ length cells
+      pub same_chosen : q.state.chosen ≡ p.state.chosen
+      pub enough : leb (pixel_count q.state.chosen) (length cells') ≡ true
+      pub same_whole : whole_run budget tape (going_on q) ring' cells' ≡ whole_run budget tape (going_on p) ring cells
+      pub less : budget - q.steps < budget - p.steps
+
+    pub pass_kept : (q : Progress) (ring' cells' : List ℕ) → going_on q ≡ progress_once budget (going_on p) cells coming
+        → world_of q.state ring' cells' ≡ world_once budget (going_on p) at coming → PassKept q ring' cells'
+    pass_kept q ring' cells' e f =
+        let k = kept (going_on q) ring' cells' e f in record {
+          bounded = k.bounded;
+          same_ring = k.same_ring;
+          same_cells = k.same_cells;
+          same_chosen = k.same_chosen;
+          enough = k.enough;
+          same_whole = k.same_whole;
+          less = omega (arith, k.less);
+        }
+
+    pub pass_ended : (e : Ending) (ring' cells' : List ℕ) → stopped p e ≡ progress_once budget (going_on p) cells coming
+        → world_of p.state ring' cells' ≡ world_once budget (going_on p) at coming
+        → (end : RunEnd) → whole_run budget tape (going_on p) ring cells ≡ end → RunTo end (stopped p e) ring' cells'
+    pass_ended e ring' cells' f g end h =
+        run_end budget (stopped p e) ring' cells' tape end refl ((kept (stopped p e) ring' cells' f g).same_whole ∙ h)
+
 pub start_bounded : (budget : ℕ) (s : State) (tape : List ℕ) → Bounded budget tape (begun_with s)
 start_bounded budget s tape = record { steps = omega arith; evaluations = omega arith; tape_used = omega arith; tape_few = omega arith }
 
 -- BY THE TESTS THAT THE CODE MAKES
 
-module _ (budget : ℕ) (p : Progress) (ring cells : List ℕ) (next : StepEnd) (t : Bool) (is_t : t ≡ queue_empty p.state) where
+module _ (budget : ℕ) (p : HowFar) (ring cells : List ℕ) (next : StepEnd) (t : Bool) (is_t : t ≡ queue_empty p.state) where
   abbrev before : World
   before = world_of p.state ring cells
 
-  pub once_empty : (r : Progress) (e : Ending) → t ≡ true → e ≡ empty_ending p.state.chosen cells → r ≡ halted p e → SoundByUse (length ring) p.state
+  pub once_empty : (r : HowFar) (e : Ending) → t ≡ true → e ≡ empty_ending p.state.chosen cells → r ≡ halted p e → SoundByUse (length ring) p.state
       → OnceGone budget p before next r ring cells
   unfolding progress_once world_once
   once_empty r e h f g s = let u : queue_empty p.state ≡ true = sym is_t ∙ h in (rw (u, g, f), rw (u, g), rw g s)
 
-  pub once_spent : (r : Progress) → t ≡ false → budget ≤ p.steps → r ≡ halted p E.More → SoundByUse (length ring) p.state
+  pub once_spent : (r : HowFar) → t ≡ false → budget ≤ p.steps → r ≡ halted p E.More → SoundByUse (length ring) p.state
       → OnceGone budget p before next r ring cells
   unfolding progress_once world_once
   once_spent r h k g s =
       let u : queue_empty p.state ≡ false = sym is_t ∙ h in
       (rw (u, le-leb budget p.steps k, g), rw (u, le-leb budget p.steps k, g), rw g s)
 
-  pub once_step : (r : Progress) (ring' cells' : List ℕ) → t ≡ false → p.steps < budget → r ≡ progress_after p next
+  pub once_step : (r : HowFar) (ring' cells' : List ℕ) → t ≡ false → p.steps < budget → r ≡ progress_after p next
       → world_of r.state ring' cells' ≡ world_after before next → SoundByUse (length ring') r.state
       → OnceGone budget p before next r ring' cells'
   unfolding progress_once world_once

@@ -13,7 +13,9 @@ use Rattle.base.proofs.Test.{by_test, and_left, and_right}
 use Rattle.base.specs.Lists.{Every}
 use Rattle.base.proofs.ListLaws.{every_append, every_also}
 use Rattle.interval.specs.declared.Interval.{Interval}
-use Rattle.interval.specs.declared.PiecesAnswer.{PiecesAnswer}
+use Rattle.std.specs.Prelude.{Result}
+use Rattle.refusal.specs.declared.Refusal.{Refusal}
+use Rattle.interval.specs.declared.Pieces.{Pieces}
 use Rattle.interval.specs.Bounds.{legal_interval, put_interval, same_interval}
 use Rattle.interval.specs.Cuts.{width_is, keep_if, unlike_next, deduped, legal_three, span_of, first_cut}
 use Rattle.interval.specs.Answers.{pieces_of}
@@ -262,7 +264,7 @@ count_is f =
     let d = pieces_of f.t in
     rw (length_each D.T d (cut_theta f), length_each D.Theta c (cut_n f), length_each D.N b (cut_m f), length_each D.M a (f.root ∷ []), one-mul (length a))
 
-at_cut : (d : Direction) (c : PiecesAnswer) (z : Block) (l : List Block) (k : ℕ) → 0 < piece_count c → k < length (each_with d (pieces_of c) l)
+at_cut : (d : Direction) (c : Result Pieces Refusal) (z : Block) (l : List Block) (k : ℕ) → 0 < piece_count c → k < length (each_with d (pieces_of c) l)
     → (get_or (each_with d (pieces_of c) l) k z ≡ with_parameter (get_or l (k / piece_count c) z) d (piece_at c (k % piece_count c))) × (k / piece_count c < length l)
 at_cut d c z l k h i =
     let j : k < length l * piece_count c = rw (length_each d (pieces_of c) l) at i in

@@ -1,16 +1,17 @@
 -- The first blocks one by one: the i-th of the product is the i-th of the list. Assumes nothing.
 use mathlib.Core.Path.{◌≡◌, sym, ap, ◌∙◌}
 use mathlib.Core.Bool.{Bool, true, false}
-use mathlib.Core.List.{List, ◌∷◌}
 use Prim.Native.Nat.{ℕ, zero, suc, ◌+◌, ◌*◌, ◌/◌, ◌%◌, ◌≤◌, ◌<◌}
 use native.Mathlib.Omega.{arith}
 use native.Mathlib.Nat.{zero-mul, mul-le-mul}
 use Rattle.interval.specs.declared.Interval.{Interval}
-use Rattle.interval.specs.declared.PiecesAnswer.{PiecesAnswer}
-use Rattle.interval.specs.declared.PiecesAnswer.TheVariants as C
+use Rattle.std.specs.Prelude.{Result, Ok}
+use Rattle.refusal.specs.declared.Refusal.{Refusal}
+use Rattle.interval.specs.declared.Pieces.{Pieces}
+use Rattle.interval.specs.declared.Pieces.TheVariants as C
 use Rattle.interval.specs.Bounds.{legal_interval, put_interval}
 use Rattle.interval.specs.Cuts.{first_cut}
-use Rattle.interval.specs.Answers.{pieces_at, pieces_of}
+use Rattle.interval.specs.Answers.{pieces_at}
 use Rattle.queue.specs.declared.Block.{Block}
 use Rattle.queue.specs.declared.directions.Direction.{Direction}
 use Rattle.queue.specs.declared.directions.Direction.TheVariants as D
@@ -42,31 +43,15 @@ root_made p r k e = rw e
 -- THE PIECES, as the code has them
 
 module _ (set : ℕ) (d : Direction) (range : Interval) (used : Bool) (is : used ≡ in_use set d) where
-  pub pieces_used : (integer : Bool) (c : PiecesAnswer) → used ≡ true → integer ≡ is_integer d
+  pub pieces_used : (integer : Bool) (c : Result Pieces Refusal) → used ≡ true → integer ≡ is_integer d
       → c ≡ pieces_at (legal_interval range integer) (first_cut (put_interval range) integer)
       → c ≡ pieces_kept set d range
   unfolding pieces_kept
   pieces_used integer c u i e = e ∙ rw (i, sym is ∙ u)
 
-  pub pieces_unused : (line : Interval) → used ≡ false → line ≡ whole_line → C.One line ≡ pieces_kept set d range
+  pub pieces_unused : (line : Interval) → used ≡ false → line ≡ whole_line → Ok (C.One line) ≡ pieces_kept set d range
   unfolding pieces_kept
   pieces_unused line u e = rw (e, sym is ∙ u)
-
-module _ (c : PiecesAnswer) (j : ℕ) (inside : j < piece_count c) where
-  pub at_one : (p : Interval) → c ≡ C.One p → p ≡ piece_at c j
-  at_one p e = let z : j ≡ 0 = omega (arith, rw e at inside) in rw (e, z)
-
-  pub at_two_last : (p q : Interval) → c ≡ C.Two p q → (j ≡ 0 → ⊥) → q ≡ piece_at c j
-  at_two_last p q e h = let z : j ≡ 1 = omega (arith, rw e at inside, h) in rw (e, z)
-
-  pub at_three_last : (p q r : Interval) → c ≡ C.Three p q r → (j ≡ 0 → ⊥) → (j ≡ 1 → ⊥) → r ≡ piece_at c j
-  at_three_last p q r e h k = let z : j ≡ 2 = omega (arith, rw e at inside, h, k) in rw (e, z)
-
-pub at_first : (c : PiecesAnswer) (j : ℕ) (p : Interval) (l : List Interval) → pieces_of c ≡ p ∷ l → j ≡ 0 → p ≡ piece_at c j
-at_first c j p l e z = rw (e, z)
-
-pub at_second : (c : PiecesAnswer) (j : ℕ) (p q : Interval) (l : List Interval) → pieces_of c ≡ p ∷ q ∷ l → j ≡ 1 → q ≡ piece_at c j
-at_second c j p q l e z = rw (e, z)
 
 -- at most three
 pub nine : (a b : ℕ) → a ≤ 3 → b ≤ 3 → a * b ≤ 9
@@ -111,12 +96,12 @@ some f h =
 
 -- WHAT IS CHOSEN
 
-pub picked_made : (k : Picked) (d : Direction) (c : PiecesAnswer) (n : ℕ) (piece : Interval) (block : Block) → n ≡ piece_count c
+pub picked_made : (k : Picked) (d : Direction) (c : Result Pieces Refusal) (n : ℕ) (piece : Interval) (block : Block) → n ≡ piece_count c
     → piece ≡ piece_at c (k.left % n) → block ≡ with_parameter k.block d piece
     → record { block = block; left = k.left / n } ≡ picked_by d c k
 picked_made k d c n piece block e f g = rw (g, f, e)
 
-pub product_made : (p : Chosen) (r : Ranges) (root : Block) (m n theta t : PiecesAnswer) → root ≡ root_block p r
+pub product_made : (p : Chosen) (r : Ranges) (root : Block) (m n theta t : Result Pieces Refusal) → root ≡ root_block p r
     → m ≡ pieces_kept p.set D.M r.m → n ≡ pieces_kept p.set D.N r.n
     → theta ≡ pieces_kept p.set D.Theta r.theta → t ≡ pieces_kept p.set D.T r.t
     → record { root = root; m = m; n = n; theta = theta; t = t } ≡ product_of p r

@@ -1,4 +1,7 @@
 -- The first blocks written into the ring one after the other: what is left to write from the i-th on is what was to write. Assumes nothing.
+use Rattle.std.specs.Prelude.{Result, Ok, Err}
+use Rattle.queue.specs.declared.QueueError.{QueueError}
+use Rattle.queue.specs.Queue.{code_appended}
 use mathlib.Core.Path.{◌≡◌, refl, sym, ap, ap₂, ◌∙◌}
 use mathlib.Core.Bool.{Bool, true, false, false≢true}
 use mathlib.Core.List.{List, [], ◌∷◌}
@@ -12,7 +15,6 @@ use Rattle.base.proofs.Test.{and_both, by_ltb}
 use Rattle.queue.specs.declared.Block.{Block}
 use Rattle.queue.specs.declared.Last.{Last}
 use Rattle.queue.specs.declared.Appended.{Appended}
-use Rattle.queue.specs.declared.Appended.TheVariants as A
 use Rattle.queue.specs.Block.{starting_last, as_queued, remembered}
 use Rattle.queue.specs.Code.{encode}
 use Rattle.queue.specs.Ring.{fits_ring, wrapped, stored, stored_behind}
@@ -31,28 +33,22 @@ use Rattle.implicit.proofs.SetupLawsFirst.{product_list, first_is}
 
 -- ONE BLOCK WRITTEN
 
-abbrev last_of : Appended → Last → Last
-last_of (A.Done last used) other = last
-last_of A.NoRoom other = other
-last_of A.NotCodable other = other
-last_of A.Outside other = other
+abbrev last_of : Result Appended QueueError → Last → Last
+last_of (Ok a) other = a.last
+last_of (Err why) other = other
 
-abbrev used_of : Appended → ℕ
-used_of (A.Done last used) = used
-used_of A.NoRoom = 0
-used_of A.NotCodable = 0
-used_of A.Outside = 0
+abbrev used_of : Result Appended QueueError → ℕ
+used_of (Ok a) = a.used
+used_of (Err why) = 0
 
-abbrev pub is_done : Appended → Bool
-is_done (A.Done last used) = true
-is_done A.NoRoom = false
-is_done A.NotCodable = false
-is_done A.Outside = false
+abbrev pub is_done : Result Appended QueueError → Bool
+is_done (Ok a) = true
+is_done (Err why) = false
 
 module _ (ring : List ℕ) (set : ℕ) (k : Behind) (b : Block) (can : codable set k.back b ≡ true) (is : as_queued set b ≡ b)
     (fits : fits_ring (length ring) 0 k.used ≡ true)
     (room : k.used + length (encode set k.back b) ≤ length ring) where
-  done_is : appended (length ring) 0 k.used set k.back b ≡ A.Done (remembered b) (k.used + length (encode set k.back b))
+  done_is : appended (length ring) 0 k.used set k.back b ≡ code_appended (remembered b) (k.used + length (encode set k.back b))
   unfolding appended
   done_is = rw (fits, can, is, le-leb (k.used + length (encode set k.back b)) (length ring) room)
 
@@ -60,14 +56,14 @@ module _ (ring : List ℕ) (set : ℕ) (k : Behind) (b : Block) (can : codable s
   unfolding appended_ring
   queued_ring ring₁ e = e ∙ rw (done_is, is)
 
-  module _ (a : Appended) (e : a ≡ appended (length ring) 0 k.used set k.back b) where
-    pub queued_behind : (last : Last) (used : ℕ) → a ≡ A.Done last used → record { back = last; used = used } ≡ behind_with set k b
+  module _ (a : Result Appended QueueError) (e : a ≡ appended (length ring) 0 k.used set k.back b) where
+    pub queued_behind : (last : Last) (used : ℕ) → a ≡ code_appended last used → record { back = last; used = used } ≡ behind_with set k b
     unfolding behind_with
     queued_behind last used g =
-        let h : A.Done last used ≡ A.Done (remembered b) (k.used + length (encode set k.back b)) = sym g ∙ e ∙ done_is in
-        rw (ap (λ (o : Appended). last_of o last) h, ap used_of h)
+        let h : code_appended last used ≡ code_appended (remembered b) (k.used + length (encode set k.back b)) = sym g ∙ e ∙ done_is in
+        rw (ap (λ (o : Result Appended QueueError). last_of o last) h, ap used_of h)
 
-    pub queued_else : {P : Type 0} (o : Appended) → is_done o ≡ false → a ≡ o → P
+    pub queued_else : {P : Type 0} (o : Result Appended QueueError) → is_done o ≡ false → a ≡ o → P
     queued_else o n g = absurd (false≢true (sym n ∙ ap is_done (sym g ∙ e ∙ done_is)))
 
 -- ALL OF THEM

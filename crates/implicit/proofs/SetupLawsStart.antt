@@ -1,9 +1,10 @@
 -- The record, the ring and the cells that a setup leaves, as the code puts them together; and the answer. Assumes nothing.
-use mathlib.Core.Path.{◌≡◌, sym, ap, ◌∙◌}
+use mathlib.Core.Path.{◌≡◌, refl, sym, ap, ◌∙◌}
 use mathlib.Core.Bool.{true}
 use mathlib.Core.List.{List}
 use Prim.Native.Nat.{ℕ, ◌-◌}
 use lib.ListN.{length}
+use Rattle.std.specs.Prelude.{Ok, Err}
 use Rattle.refusal.specs.declared.Refusal.{Refusal}
 use Rattle.image.specs.declared.PixelRange.{PixelRange}
 use Rattle.image.specs.declared.Op.TheVariants as Op
@@ -15,11 +16,8 @@ use Rattle.queue.proofs.RingLaws.{length_stored}
 use Rattle.decide.specs.declared.Chosen.{Chosen}
 use Rattle.implicit.specs.declared.state.State.{State}
 use Rattle.implicit.specs.declared.state.Ranges.{Ranges}
-use Rattle.implicit.specs.declared.state.SetupAnswer.TheVariants as S
 use Rattle.implicit.specs.declared.first.Product.{Product}
 use Rattle.implicit.specs.declared.first.Behind.{Behind}
-use Rattle.implicit.specs.declared.setting_up.SetupEnd.{SetupEnd}
-use Rattle.implicit.specs.declared.setting_up.SetupEnd.TheVariants as E
 use Rattle.implicit.specs.Setup.{first_blocks, first_bytes, ranges_legal, setup_refusal, start_record, start_ring, start_cells}
 use Rattle.implicit.specs.Setup.{setup_answer, ring_begun, cells_begun}
 use Rattle.implicit.specs.SetupComputed.{product_of, product_count, behind_first}
@@ -48,27 +46,18 @@ cells_made p r n all cells cells₁ a b c = c ∙ rw (a, b)
 
 -- THE ANSWER
 
-module _ (p : Chosen) (r : Ranges) (ring cells : List ℕ) (e : SetupEnd) (is : e ≡ setup_refusal p r (length ring) (length cells)) where
-  pub answer_ready : (s : State) → e ≡ E.Begun → s ≡ start_record p r (length ring) → S.Ready s ≡ setup_answer p r (length ring) (length cells)
-  unfolding setup_answer
-  answer_ready s g h = rw (h, sym is ∙ g)
+-- of what was chosen as it is kept, which the code holds in `q`
+module _ (p q : Chosen) (kept : q ≡ p) (r : Ranges) (ring cells : List ℕ) where
+  pub begins : Ok tt ≡ setup_refusal q r (length ring) (length cells) → setup_refusal p r (length ring) (length cells) ≡ Ok tt
+  begins e = sym (rw kept at e)
 
-  pub ring_ready : (ring₁ : List ℕ) → e ≡ E.Begun → ring₁ ≡ start_ring p r ring → ring₁ ≡ ring_begun p r ring cells
-  unfolding ring_begun
-  ring_ready ring₁ g h = h ∙ rw (sym is ∙ g)
+  pub begun : (s : State) (ring₁ cells₁ : List ℕ) → Ok tt ≡ setup_refusal q r (length ring) (length cells)
+      → s ≡ start_record q r (length ring) → ring₁ ≡ start_ring q r ring → cells₁ ≡ start_cells q r cells
+      → (Ok s ≡ setup_answer p r (length ring) (length cells)) × (ring₁ ≡ ring_begun p r ring cells) × (cells₁ ≡ cells_begun p r ring cells)
+  unfolding setup_answer ring_begun cells_begun
+  begun s ring₁ cells₁ e f g h = rw (f, g, h, kept, begins e) (refl, refl, refl)
 
-  pub cells_ready : (cells₁ : List ℕ) → e ≡ E.Begun → cells₁ ≡ start_cells p r cells → cells₁ ≡ cells_begun p r ring cells
-  unfolding cells_begun
-  cells_ready cells₁ g h = h ∙ rw (sym is ∙ g)
-
-  pub answer_refused : (why : Refusal) → e ≡ E.Rejected why → S.Refused why ≡ setup_answer p r (length ring) (length cells)
-  unfolding setup_answer
-  answer_refused why g = rw (sym is ∙ g)
-
-  pub ring_refused : (why : Refusal) → e ≡ E.Rejected why → ring ≡ ring_begun p r ring cells
-  unfolding ring_begun
-  ring_refused why g = rw (sym is ∙ g)
-
-  pub cells_refused : (why : Refusal) → e ≡ E.Rejected why → cells ≡ cells_begun p r ring cells
-  unfolding cells_begun
-  cells_refused why g = rw (sym is ∙ g)
+  pub not_begun : (why : Refusal) → Err why ≡ setup_refusal q r (length ring) (length cells)
+      → (Err why ≡ setup_answer p r (length ring) (length cells)) × (ring ≡ ring_begun p r ring cells) × (cells ≡ cells_begun p r ring cells)
+  unfolding setup_answer ring_begun cells_begun
+  not_begun why e = let f : setup_refusal p r (length ring) (length cells) ≡ Err why = sym (rw kept at e) in rw f (refl, refl, refl)

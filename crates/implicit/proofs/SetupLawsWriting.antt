@@ -1,4 +1,7 @@
 -- The first blocks queued one after the other, first counted, then written: what is left to do from the i-th on is what was to do. Assumes nothing.
+use Rattle.std.specs.Prelude.{Result, Ok, Err}
+use Rattle.queue.specs.declared.QueueError.{QueueError}
+use Rattle.queue.specs.Queue.{code_measured}
 use mathlib.Core.Path.{◌≡◌, sym, ap, ◌∙◌, subst}
 use mathlib.Core.Bool.{Bool, true, false, ◌&&◌, false≢true}
 use mathlib.Core.List.{List, [], ◌∷◌, ◌++◌}
@@ -15,7 +18,6 @@ use Rattle.base.proofs.ListLaws.{every_also}
 use Rattle.queue.specs.declared.Block.{Block}
 use Rattle.queue.specs.declared.Last.{Last}
 use Rattle.queue.specs.declared.Measured.{Measured}
-use Rattle.queue.specs.declared.Measured.TheVariants as M
 use Rattle.queue.specs.Block.{starting_last, as_queued, remembered}
 use Rattle.queue.specs.Code.{encode, parameters_legal, can_queue, indices_known}
 use Rattle.queue.specs.Queue.{codable, measured, queue_codes}
@@ -86,40 +88,40 @@ measure_end set bs i k h m =
 
 -- ONE BLOCK COUNTED
 
-abbrev count_of : Measured → ℕ
-count_of (M.Bytes count last) = count
-count_of M.NotCodable = 0
+abbrev count_of : Result Measured QueueError → ℕ
+count_of (Ok m) = m.count
+count_of (Err why) = 0
 
-abbrev last_of : Measured → Last → Last
-last_of (M.Bytes count last) other = last
-last_of M.NotCodable other = other
+abbrev last_of : Result Measured QueueError → Last → Last
+last_of (Ok m) other = m.last
+last_of (Err why) other = other
 
-abbrev is_bytes : Measured → Bool
-is_bytes (M.Bytes count last) = true
-is_bytes M.NotCodable = false
+abbrev is_bytes : Result Measured QueueError → Bool
+is_bytes (Ok m) = true
+is_bytes (Err why) = false
 
-module _ (set : ℕ) (k : Behind) (b : Block) (can : codable set k.back b ≡ true) (is : as_queued set b ≡ b) (a : Measured)
+module _ (set : ℕ) (k : Behind) (b : Block) (can : codable set k.back b ≡ true) (is : as_queued set b ≡ b) (a : Result Measured QueueError)
     (e : a ≡ measured set k.back b) where
-  bytes_are : a ≡ M.Bytes (length (encode set k.back b)) (remembered b)
+  bytes_are : a ≡ code_measured (length (encode set k.back b)) (remembered b)
   unfolding measured
   bytes_are = e ∙ rw (can, is)
 
-  pub counted : (count : ℕ) (last : Last) → a ≡ M.Bytes count last → count ≡ length (encode set k.back b)
+  pub counted : (count : ℕ) (last : Last) → a ≡ code_measured count last → count ≡ length (encode set k.back b)
   counted count last g = ap count_of (sym g ∙ bytes_are)
 
-  pub counted_short : (count : ℕ) (last : Last) → a ≡ M.Bytes count last → count ≤ 83
+  pub counted_short : (count : ℕ) (last : Last) → a ≡ code_measured count last → count ≤ 83
   counted_short count last g =
       rw (counted count last g)
       (encode_few set k.back b (and_left (can_queue set b) (indices_known k.back) can) (and_right (can_queue set b) (indices_known k.back) can))
 
-  pub counted_behind : (count : ℕ) (last : Last) → a ≡ M.Bytes count last → record { back = last; used = k.used + count } ≡ behind_with set k b
+  pub counted_behind : (count : ℕ) (last : Last) → a ≡ code_measured count last → record { back = last; used = k.used + count } ≡ behind_with set k b
   unfolding behind_with
   counted_behind count last g =
-      let l : last ≡ remembered b = ap (λ (m : Measured). last_of m last) (sym g ∙ bytes_are) in
+      let l : last ≡ remembered b = ap (λ (m : Result Measured QueueError). last_of m last) (sym g ∙ bytes_are) in
       rw (counted count last g, l)
 
-  pub counted_not : {P : Type 0} → a ≡ M.NotCodable → P
-  counted_not g = absurd (false≢true (ap is_bytes (sym g ∙ bytes_are)))
+  pub counted_not : {P : Type 0} (why : QueueError) → a ≡ Err why → P
+  counted_not why g = absurd (false≢true (ap is_bytes (sym g ∙ bytes_are)))
 
 -- THE RANGES
 

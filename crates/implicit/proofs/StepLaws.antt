@@ -1,14 +1,17 @@
 -- The step, stage by stage: what its decision says, and that the check of the room and the writing are the definition's. Assumes nothing.
+use Rattle.std.specs.Prelude.{Ok}
+use Rattle.queue.specs.declared.QueueError.{QueueError}
+use Rattle.queue.specs.Queue.{front_taken}
 use mathlib.Core.Path.{◌≡◌, refl, sym, ap, ◌∙◌}
 use mathlib.Core.Bool.{Bool, true, false, cond}
-use mathlib.Core.List.{List, [], ◌∷◌, map}
+use mathlib.Core.List.{List, [], ◌∷◌}
 use Prim.Native.Nat.{ℕ, ◌+◌, ◌-◌, ◌^◌, ◌≤◌}
 use native.Mathlib.Omega.{arith}
 use native.Mathlib.Nat.{zero-add}
 use lib.Dec.{leb, ltb}
 use lib.ListN.{length, take, replicate, length-append, length-replicate}
-use lib.ListN as L
 use borrow.Author.Tests.{leb-true, leb-false, lt-ltb, le-leb, lt-leb}
+use Rattle.std.specs.Prelude.{Result, Err, Ok}
 use Rattle.base.proofs.Test.{cases, by_test}
 use Rattle.base.specs.Event.{queued_by}
 use Rattle.refusal.specs.declared.Refusal.{Refusal}
@@ -18,7 +21,6 @@ use Rattle.image.specs.Cell as Cells
 use Rattle.queue.specs.declared.Block.{Block}
 use Rattle.queue.specs.declared.Last.{Last}
 use Rattle.queue.specs.declared.Taken.{Taken}
-use Rattle.queue.specs.declared.Taken.TheVariants as T
 use Rattle.queue.specs.Ring.{stored_behind}
 use Rattle.queue.specs.Code.{indices_known}
 use Rattle.queue.specs.Queue as Queue
@@ -34,29 +36,25 @@ use Rattle.decide.specs.Verdict.{all_legal, outcome_of, is_marking}
 use Rattle.decide.proofs.ListingLaws.{children_few}
 use Rattle.plan.specs.declared.Judged.{Judged}
 use Rattle.plan.specs.Plan.{painted_under, all_true, outcomes, incomplete_count, evaluations, mark_events, turn_events, events_for, cells_after}
-use Rattle.plan.specs.AtOnce.{children_by, noted, judged_as, judged_of}
+use Rattle.plan.specs.AtOnce.{children_by, judged_as, judged_of}
 use Rattle.plan.proofs.JudgedLaws.{cut_children, judged_in_order, marks_queue_none}
 use Rattle.implicit.specs.declared.state.State.{State}
-use Rattle.implicit.specs.declared.state.StepAnswer.{StepAnswer}
-use Rattle.implicit.specs.declared.state.StepAnswer.TheVariants as S
-use Rattle.implicit.specs.declared.deciding.Check.{Check}
-use Rattle.implicit.specs.declared.deciding.Check.TheVariants as C
 use Rattle.implicit.specs.declared.deciding.Decided.{Decided}
-use Rattle.implicit.specs.DecisionComputed.{Decision}
-use Rattle.implicit.specs.DecisionComputed as D
 use Rattle.implicit.specs.declared.fitting.Size.{Size}
 use Rattle.implicit.specs.declared.commit.Behind.{Behind}
+use Rattle.implicit.specs.declared.state.Finished.{Finished}
+use Rattle.implicit.specs.declared.state.Refused.{Refused}
 use Rattle.implicit.specs.Record.{pixel_count, sound_record, put_last}
 use Rattle.implicit.specs.Listing.{front_of}
 use Rattle.implicit.specs.Step.{World, world_of, StepEnd, refused, finished, unless, enough_verdicts, outcomes_of}
 use Rattle.implicit.specs.Step.{events_of, new_blocks, new_bytes, world_left, block_sound, judged, after_taking}
 use Rattle.implicit.specs.Step.{step_with, EndsAs}
-use Rattle.implicit.specs.StepComputed.{decision_judged, decision_on, decision_from, decision_of, Four, FourIn}
-use Rattle.implicit.specs.StepComputed.{turn_of, size_of, size_check, room_check, RoomAsked, room_check_of, marked_for}
-use Rattle.implicit.specs.StepComputed.{Carrying, carrying_of, committed, committed_of, finished_by, finished_as}
+use Rattle.implicit.specs.StepComputed.{decision_judged, decision_on, decision_from, decision_of, Four}
+use Rattle.implicit.specs.StepComputed.{turn_of, size_of, size_check, room_check, marked_for}
+use Rattle.implicit.specs.StepComputed.{Carrying, carrying_of, committed, finished_by}
 use Rattle.implicit.proofs.RecordLaws.{sound_record_lem}
 use Rattle.implicit.proofs.StepLawsKept.{LastHeld, AllReady}
-use Rattle.implicit.proofs.StepLawsComputed.{outcomes_in, padded, marks_padded, turns_padded, sized_is, marked_length, marked_is, carried_is}
+use Rattle.implicit.proofs.StepLawsComputed.{padded, marks_padded, turns_padded, sized_is, marked_length, marked_is, carried_is}
 use Rattle.implicit.proofs.StepLawsFront.{front_known, front_head, front_used, block_whole, new_ready}
 
 -- WHAT A DECISION SAYS
@@ -67,7 +65,7 @@ pub record Gone (tape : Bool) (s : State) (ring cells vs : List ℕ) (g : Decide
   pub record_is_sound : sound_record (length ring) s ≡ true
   pub cells_enough : leb (pixel_count s.chosen) (length cells) ≡ true
   pub not_empty : ltb s.taken s.queued ≡ true
-  pub front_read : front_of s ring ≡ T.Front g.block last g.head g.used
+  pub front_read : front_of s ring ≡ front_taken g.block last g.head g.used
   pub block_is_sound : block_sound s.chosen cells g.block ≡ true
   pub enough : enough_verdicts tape (length (children_of s.chosen g.block)) (length vs) ≡ true
   pub cut_is : g.cut ≡ cut_of s.chosen g.block
@@ -79,9 +77,9 @@ module _ (tape : Bool) (s : State) (ring cells vs : List ℕ) where
   world = world_of s ring cells
 
   -- what becomes of the step
-  abbrev pub Decides : Decision → Type 0
-  Decides (D.Go g) = Gone tape s ring cells vs g
-  Decides (D.Refused why) = step_with tape world vs ≡ refused why
+  abbrev pub Decides : Result Decided Refusal → Type 0
+  Decides (Ok g) = Gone tape s ring cells vs g
+  Decides (Err why) = step_with tape world vs ≡ refused why
 
   -- what is remembered of the children, in the definition's words
   judged_as_lem : (b : Block) (own : List ℕ) → sound s.chosen b ≡ true → leb (pixel_count s.chosen) (length cells) ≡ true
@@ -89,7 +87,7 @@ module _ (tape : Bool) (s : State) (ring cells vs : List ℕ) where
   judged_as_lem b own ok h = judged_in_order s.chosen b ok own cells (leb-true (pixel_count s.chosen) (length cells) h)
 
   module _ (a : sound_record (length ring) s ≡ true) (h : leb (pixel_count s.chosen) (length cells) ≡ true) (e : ltb s.taken s.queued ≡ true) where
-    block_decides : (b : Block) (last : Last) (head used : ℕ) → front_of s ring ≡ T.Front b last head used
+    block_decides : (b : Block) (last : Last) (head used : ℕ) → front_of s ring ≡ front_taken b last head used
         → Decides (decision_on s.chosen cells tape vs b head used)
     unfolding decision_on decision_judged step_with after_taking judged unless judged_as
     block_decides b last head used f =
@@ -115,11 +113,10 @@ module _ (tape : Bool) (s : State) (ring cells vs : List ℕ) where
         (λ n. rw (a, h, e, f, d, n))))
         (λ d. rw (a, h, e, f, d))
 
-    front_decides : (t : Taken) → front_of s ring ≡ t → Decides (decision_from s.chosen cells tape vs t)
+    front_decides : (t : Result Taken QueueError) → front_of s ring ≡ t → Decides (decision_from s.chosen cells tape vs t)
     unfolding step_with after_taking unless
-    front_decides (T.Front b last head used) f = block_decides b last head used f
-    front_decides T.Damaged f = rw (a, h, e, f)
-    front_decides T.Outside f = rw (a, h, e, f)
+    front_decides (Ok t) f = block_decides t.block t.last t.head t.used f
+    front_decides (Err why) f = rw (a, h, e, f)
 
   pub decides : Decides (decision_of s.chosen (sound_record (length ring) s) (ltb s.taken s.queued) (front_of s ring) cells tape vs)
   unfolding decision_of step_with unless
@@ -195,14 +192,14 @@ module _ (tape : Bool) (s : State) (ring cells vs : List ℕ) (g : Decided) (k :
   turn_as = rw incomplete_as
 
   -- the events, and the blocks that they queue
-  turns_as : turn_events (turn_of s.chosen g) (children_by g.cut g.block) (outcomes_in g.judged.at)
+  turns_as : turn_events (turn_of s.chosen g) (children_by g.cut g.block) g.judged.at
       ≡ turn_events (turned s.chosen g.block (incomplete_count ended)) kids ended
   turns_as = rw (turn_as, cut_kids, places) (turns_padded (turned s.chosen g.block (incomplete_count ended)) kids ended (4 - length ended))
 
-  marks_as : mark_events (children_by g.cut g.block) (outcomes_in g.judged.at) ≡ mark_events kids ended
+  marks_as : mark_events (children_by g.cut g.block) g.judged.at ≡ mark_events kids ended
   marks_as = rw (cut_kids, places) (marks_padded kids ended (4 - length ended))
 
-  queued_as : queued_by (turn_events (turn_of s.chosen g) (children_by g.cut g.block) (outcomes_in g.judged.at)) ≡ new_blocks here g.block own
+  queued_as : queued_by (turn_events (turn_of s.chosen g) (children_by g.cut g.block) g.judged.at) ≡ new_blocks here g.block own
   unfolding events_for
   queued_as = ap queued_by turns_as ∙ sym (marks_queue_none kids ended (turn_events (turned s.chosen g.block (incomplete_count ended)) kids ended))
 
@@ -216,9 +213,8 @@ module _ (tape : Bool) (s : State) (ring cells vs : List ℕ) (g : Decided) (k :
         arith,
         few,
         most,
-        length-append (map noted ended) (replicate n (noted Out.Skipped)),
-        L.length-map ended noted,
-        length-replicate n (noted Out.Skipped),
+        length-append ended (replicate n Out.Skipped),
+        length-replicate n Out.Skipped,
       ) in
       (omega (arith, counted, most), ap length places ∙ l)
 
@@ -243,9 +239,9 @@ module _ (tape : Bool) (s : State) (ring cells vs : List ℕ) (g : Decided) (k :
     leaves = finished (world_left here g.block k.last g.head g.used own) (evaluations ended) (length kids)
 
     -- the step, once the room is checked
-    abbrev after_check : Check → StepEnd
-    after_check C.Passed = leaves
-    after_check (C.Refused why) = refused why
+    abbrev after_check : Result (Unit {0}) Refusal → StepEnd
+    after_check (Ok u) = leaves
+    after_check (Err why) = refused why
 
     fits_same : (used n len : ℕ) → used ≤ len → leb n (len - used) ≡ leb (used + n) len
     fits_same used n len h =
@@ -254,7 +250,7 @@ module _ (tape : Bool) (s : State) (ring cells vs : List ℕ) (g : Decided) (k :
         (λ e. e ∙ sym (lt-leb (used + n) len (omega (arith, leb-false n (len - used) e))))
 
     two_checks : (a b : Bool) (u v : Refusal)
-        → after_check (cond a (cond b C.Passed (C.Refused u)) (C.Refused v)) ≡ cond a (cond b leaves (refused u)) (refused v)
+        → after_check (cond a (cond b (Ok tt) (Err u)) (Err v)) ≡ cond a (cond b leaves (refused u)) (refused v)
     two_checks true true u v = refl
     two_checks true false u v = refl
     two_checks false b u v = refl
@@ -269,7 +265,7 @@ module _ (tape : Bool) (s : State) (ring cells vs : List ℕ) (g : Decided) (k :
 
     -- THE WRITING
 
-    module _ (passed : room_check s.chosen s.queued s.back (length ring) g ≡ C.Passed) where
+    module _ (passed : room_check s.chosen s.queued s.back (length ring) g ≡ Ok tt) where
       both : (s.queued + length (new_blocks here g.block own) ≤ 2 ^ 32) × (g.used + length (new_bytes here g.block own) ≤ length ring)
       unfolding size_check
       both =
@@ -278,7 +274,7 @@ module _ (tape : Bool) (s : State) (ring cells vs : List ℕ) (g : Decided) (k :
           let t = two_passed (leb n (2 ^ 32)) (leb l (length ring - g.used)) R.Room R.Numbers (rw sizes at passed) in
           (leb-true n (2 ^ 32) t.0, omega (arith, leb-true l (length ring - g.used) t.1, in_ring))
         where
-          two_passed : (a b : Bool) (u v : Refusal) → cond a (cond b C.Passed (C.Refused u)) (C.Refused v) ≡ C.Passed → (a ≡ true) × (b ≡ true)
+          two_passed : (a b : Bool) (u v : Refusal) → ◌≡◌ {A = Result (Unit {0}) Refusal} (cond a (cond b (Ok tt) (Err u)) (Err v)) (Ok tt) → (a ≡ true) × (b ≡ true)
           two_passed true true u v e = (refl, refl)
           two_passed true false u v e = let z : ◌≡◌ {A = ℕ} 0 1 = cc in absurd (omega arith)
           two_passed false b u v e = let z : ◌≡◌ {A = ℕ} 0 1 = cc in absurd (omega arith)
@@ -296,7 +292,7 @@ module _ (tape : Bool) (s : State) (ring cells vs : List ℕ) (g : Decided) (k :
           let p = s.chosen in
           let cs = children_by g.cut g.block in
           let es = g.judged.at in
-          let fs = turn_events (turn_of p g) cs (outcomes_in es) in
+          let fs = turn_events (turn_of p g) cs es in
           let q = queued_as in
           carried_is p s.taken g.head g.block (turn_of p g)
           (record { queued = s.queued; used = g.used; back = put_last s.back; ring = ring; cells = marked_for p cells g }) cs es
@@ -312,7 +308,7 @@ module _ (tape : Bool) (s : State) (ring cells vs : List ℕ) (g : Decided) (k :
 
       -- the answer
       pub ends_finished : (l : Behind) (ring' cells' : List ℕ) → carrying_of l ring' cells' ≡ committed s.chosen s.taken s.queued s.back ring cells g
-          → EndsAs here (step_with tape here vs) (finished_by s l g) ring' cells'
+          → EndsAs here (step_with tape here vs) (Ok (finished_by s l g)) ring' cells'
       unfolding world_left
       ends_finished l ring' cells' e =
           let w = e ∙ written in
@@ -327,55 +323,43 @@ module _ (tape : Bool) (s : State) (ring cells vs : List ℕ) (g : Decided) (k :
 -- THE ANSWERS
 
 -- a refused step leaves all as it was
-pub ends_refused : (w : World) (e : StepEnd) (why : Refusal) → e ≡ refused why → EndsAs w e (S.Refused why w.state) w.ring w.cells
+pub ends_refused : (w : World) (e : StepEnd) (why : Refusal) → e ≡ refused why → EndsAs w e (Err (record { why = why; state = w.state })) w.ring w.cells
 ends_refused w e why h = rw h (refl, refl, refl)
 
-module _ (tape : Bool) (s : State) (ring cells vs : List ℕ) (held : LastHeld s.front) (d : Decision)
-    (is_d : d ≡ decision_of s.chosen (sound_record (length ring) s) (ltb s.taken s.queued) (front_of s ring) cells tape vs) where
-  decided : Decides tape s ring cells vs d
-  decided = rw is_d (decides tape s ring cells vs)
+-- by a decision that was made where the record is sound or not
+module _ (tape : Bool) (s : State) (ring cells vs : List ℕ) (t : Bool) (is_t : t ≡ sound_record (length ring) s) where
+  abbrev pub decision : Result Decided Refusal
+  decision = decision_of s.chosen t (ltb s.taken s.queued) (front_of s ring) cells tape vs
 
-  -- what the room's check asks
-  pub room_asked : RoomAsked s.queued (length ring) d
-  room_asked = go d decided
-    where
-      go : (d : Decision) → Decides tape s ring cells vs d → RoomAsked s.queued (length ring) d
-      go (D.Go g) k = ((sound_record_lem (length ring) s k.record_is_sound).numbers, in_ring tape s ring cells vs g k, four tape s ring cells vs g k)
-      go (D.Refused why) k = tt
+  abbrev pub Answers : Result Finished Refused → List ℕ → List ℕ → Type 0
+  Answers a ring' cells' = EndsAs (world_of s ring cells) (step_with tape (world_of s ring cells) vs) a ring' cells'
 
-  pub four_asked : FourIn d
-  four_asked = go d decided
-    where
-      go : (d : Decision) → Decides tape s ring cells vs d → FourIn d
-      go (D.Go g) k = four tape s ring cells vs g k
-      go (D.Refused why) k = tt
+  abbrev back_with : Refusal → Result Finished Refused
+  back_with why = Err (record { why = why; state = s })
 
-  module _ (c : Check) (is_c : c ≡ room_check_of s.chosen s.queued s.back (length ring) d) where
-    pub step_refused : (why : Refusal) → c ≡ C.Refused why
-        → EndsAs (world_of s ring cells) (step_with tape (world_of s ring cells) vs) (S.Refused why s) ring cells
-    step_refused why e = ends_refused (world_of s ring cells) (step_with tape (world_of s ring cells) vs) why (go d decided (sym is_c ∙ e))
-      where
-        go : (d : Decision) → Decides tape s ring cells vs d → room_check_of s.chosen s.queued s.back (length ring) d ≡ C.Refused why
-            → step_with tape (world_of s ring cells) vs ≡ refused why
-        go (D.Go g) k f = step_room tape s ring cells vs g k held ∙ ap (after_check tape s ring cells vs g k held) f
-        go (D.Refused r) k f = let z : r ≡ why = cc in k ∙ ap refused z
+  decided : (d : Result Decided Refusal) → d ≡ decision → Decides tape s ring cells vs d
+  decided d e = rw (e, is_t) (decides tape s ring cells vs)
 
-    -- what carrying out and the answer ask
-    pub passed_numbers : c ≡ C.Passed → (s.queued ≤ 2 ^ 32) × (s.taken ≤ 2 ^ 32)
-    passed_numbers e = go d decided (sym is_c ∙ e)
-      where
-        go : (d : Decision) → Decides tape s ring cells vs d → room_check_of s.chosen s.queued s.back (length ring) d ≡ C.Passed
-            → (s.queued ≤ 2 ^ 32) × (s.taken ≤ 2 ^ 32)
-        go (D.Go g) k f = let r = sound_record_lem (length ring) s k.record_is_sound in (r.numbers, omega (arith, r.order, r.numbers))
-        go (D.Refused why) k f = let z : ◌≡◌ {A = ℕ} 0 1 = cc in absurd (omega arith)
+  pub step_undecided : (why : Refusal) → Err why ≡ decision → Answers (back_with why) ring cells
+  step_undecided why e = ends_refused (world_of s ring cells) (step_with tape (world_of s ring cells) vs) why (decided (Err why) e)
 
-    pub step_finished : (l : Behind) (r : StepAnswer) (ring' cells' : List ℕ) → c ≡ C.Passed
-        → carrying_of l ring' cells' ≡ committed_of s.chosen s.taken s.queued s.back ring cells d → r ≡ finished_as s l d
-        → EndsAs (world_of s ring cells) (step_with tape (world_of s ring cells) vs) r ring' cells'
-    step_finished l r ring' cells' e w f = go d decided (sym is_c ∙ e) w f
-      where
-        go : (d : Decision) → Decides tape s ring cells vs d → room_check_of s.chosen s.queued s.back (length ring) d ≡ C.Passed
-            → carrying_of l ring' cells' ≡ committed_of s.chosen s.taken s.queued s.back ring cells d → r ≡ finished_as s l d
-            → EndsAs (world_of s ring cells) (step_with tape (world_of s ring cells) vs) r ring' cells'
-        go (D.Go g) k e w f = rw f (ends_finished tape s ring cells vs g k held e l ring' cells' w)
-        go (D.Refused why) k e w f = let z : ◌≡◌ {A = ℕ} 0 1 = cc in absurd (omega arith)
+  module _ (g : Decided) (is_g : Ok g ≡ decision) where
+    gone : Gone tape s ring cells vs g
+    gone = decided (Ok g) is_g
+
+    -- what the room's check asks, and carrying out
+    pub room_asked : (s.queued ≤ 2 ^ 32) × (g.used ≤ length ring) × Four g
+    room_asked = ((sound_record_lem (length ring) s gone.record_is_sound).numbers, in_ring tape s ring cells vs g gone, four tape s ring cells vs g gone)
+
+    pub taken_asked : s.taken ≤ 2 ^ 32
+    taken_asked = let r = sound_record_lem (length ring) s gone.record_is_sound in omega (arith, r.order, r.numbers)
+
+    module _ (held : LastHeld s.front) where
+      pub step_no_room : (why : Refusal) → Err why ≡ room_check s.chosen s.queued s.back (length ring) g → Answers (back_with why) ring cells
+      step_no_room why e =
+          ends_refused (world_of s ring cells) (step_with tape (world_of s ring cells) vs) why
+          (step_room tape s ring cells vs g gone held ∙ ap (after_check tape s ring cells vs g gone held) (sym e))
+
+      pub step_finished : (l : Behind) (f : Finished) (ring' cells' : List ℕ) → Ok tt ≡ room_check s.chosen s.queued s.back (length ring) g
+          → carrying_of l ring' cells' ≡ committed s.chosen s.taken s.queued s.back ring cells g → f ≡ finished_by s l g → Answers (Ok f) ring' cells'
+      step_finished l f ring' cells' e w i = rw i (ends_finished tape s ring cells vs g gone held (sym e) l ring' cells' w)

@@ -1,7 +1,10 @@
 -- What a step writes and measures child by child is what the step's definition says of all children together. Assumes nothing.
+use Rattle.std.specs.Prelude.{Result}
+use Rattle.queue.specs.declared.QueueError.{QueueError}
+use Rattle.queue.specs.Queue.{code_appended, code_measured}
 use mathlib.Core.Path.{◌≡◌, refl, ap, ◌∙◌}
 use mathlib.Core.Bool.{true}
-use mathlib.Core.List.{List, [], ◌∷◌, ◌++◌, map}
+use mathlib.Core.List.{List, [], ◌∷◌, ◌++◌}
 use Prim.Native.Nat.{ℕ, zero, suc, ◌+◌, ◌^◌, ◌≤◌, ◌<◌}
 use native.Mathlib.Omega.{arith}
 use native.Mathlib.Nat.{add-zero}
@@ -21,8 +24,6 @@ use Rattle.image.proofs.BlockLaws.{rectangle_ready}
 use Rattle.queue.specs.declared.Block.{Block}
 use Rattle.queue.specs.declared.Last.{Last}
 use Rattle.queue.specs.declared.Measured.{Measured}
-use Rattle.queue.specs.declared.Measured.TheVariants as M
-use Rattle.queue.specs.declared.Appended.TheVariants as A
 use Rattle.queue.specs.Ring.{fits_ring, stored_behind, stored, wrapped}
 use Rattle.queue.specs.Block.{remembered}
 use Rattle.queue.specs.Code.{encode, indices_known}
@@ -35,8 +36,6 @@ use Rattle.decide.specs.Turn as T
 use Rattle.decide.specs.declared.verdict.Outcome.{Outcome}
 use Rattle.decide.specs.declared.verdict.Outcome.TheVariants as Out
 use Rattle.decide.specs.Verdict.{is_marking, is_incomplete}
-use Rattle.plan.specs.declared.Noted.{Noted}
-use Rattle.plan.specs.AtOnce.{noted}
 use Rattle.plan.specs.Plan.{painted_under, mark_events, turn_event, turn_events, cells_after}
 use Rattle.implicit.specs.declared.fitting.Size.{Size}
 use Rattle.implicit.specs.Record.{pixel_count}
@@ -46,12 +45,9 @@ use Rattle.implicit.proofs.StepLawsKept.{Ready, AllReady, ready_can, ready_as_qu
 
 -- THE OUTCOMES THAT ARE REMEMBERED
 
-abbrev pub outcomes_in : List Noted → List Outcome
-outcomes_in es = map (λ (e : Noted). e.outcome) es
-
 -- outcomes as they are remembered, Skipped behind them
-abbrev pub padded : List Outcome → ℕ → List Noted
-padded os n = map noted os ++ replicate n (noted Out.Skipped)
+abbrev pub padded : List Outcome → ℕ → List Outcome
+padded os n = os ++ replicate n Out.Skipped
 
 -- nothing is done for what is behind them
 no_marks : (cs : List Block) → mark_events cs [] ≡ []
@@ -64,14 +60,14 @@ unfolding turn_events
 no_turns turn [] = refl
 no_turns turn (c ∷ cs) = refl
 
-pub marks_padded : (cs : List Block) (os : List Outcome) (n : ℕ) → mark_events cs (outcomes_in (padded os n)) ≡ mark_events cs os
+pub marks_padded : (cs : List Block) (os : List Outcome) (n : ℕ) → mark_events cs (padded os n) ≡ mark_events cs os
 unfolding mark_events
 marks_padded [] os n = refl
 marks_padded (c ∷ cs) [] zero = refl
 marks_padded (c ∷ cs) [] (suc n) = marks_padded cs [] n ∙ no_marks cs
 marks_padded (c ∷ cs) (o ∷ os) n = rw (marks_padded cs os n)
 
-pub turns_padded : (turn : Block → Turned) (cs : List Block) (os : List Outcome) (n : ℕ) → turn_events turn cs (outcomes_in (padded os n)) ≡ turn_events turn cs os
+pub turns_padded : (turn : Block → Turned) (cs : List Block) (os : List Outcome) (n : ℕ) → turn_events turn cs (padded os n) ≡ turn_events turn cs os
 unfolding turn_events
 turns_padded turn [] os n = refl
 turns_padded turn (c ∷ cs) [] zero = refl
@@ -81,14 +77,14 @@ turns_padded turn (c ∷ cs) (o ∷ os) n = rw (turns_padded turn cs os n)
 -- THE SIZE
 
 measured_ready : (set : ℕ) (last : Last) (b : Block) → Ready set b → indices_known last ≡ true
-    → measured set last b ≡ M.Bytes (length (encode set last b)) (remembered b)
+    → measured set last b ≡ code_measured (length (encode set last b)) (remembered b)
 unfolding measured
 measured_ready set last b r k = rw (ready_can set b r, k, ready_as_queued set b r)
 
 module _ (p : Chosen) (turn : Block → Turned) where
   -- the blocks that children with these outcomes have queued
-  abbrev pub queued_in : List Block → List Noted → List Block
-  queued_in cs es = queued_by (turn_events turn cs (outcomes_in es))
+  abbrev pub queued_in : List Block → List Outcome → List Block
+  queued_in cs es = queued_by (turn_events turn cs es)
 
   -- the size with the codes of these blocks more
   abbrev size_then : Size → List Block → Size
@@ -102,10 +98,10 @@ module _ (p : Chosen) (turn : Block → Turned) where
   unfolding Queue.queue_codes Queue.memory
   size_same z = rw (add-zero z.queued, add-zero z.total)
 
-  sized_turn_lem : (z : Size) (cs : List Block) (es : List Noted)
+  sized_turn_lem : (z : Size) (cs : List Block) (es : List Outcome)
       → ((y : Size) → AllReady p.set (queued_in cs es) → indices_known y.last ≡ true → sized_all p turn y cs es ≡ size_then y (queued_in cs es))
-      → (t : Turned) → AllReady p.set (queued_by (turn_event t ∷ turn_events turn cs (outcomes_in es))) → indices_known z.last ≡ true
-      → sized_all p turn (sized_turn p.set z t) cs es ≡ size_then z (queued_by (turn_event t ∷ turn_events turn cs (outcomes_in es)))
+      → (t : Turned) → AllReady p.set (queued_by (turn_event t ∷ turn_events turn cs es)) → indices_known z.last ≡ true
+      → sized_all p turn (sized_turn p.set z t) cs es ≡ size_then z (queued_by (turn_event t ∷ turn_events turn cs es))
   unfolding queued_by Queue.queue_codes Queue.memory
   sized_turn_lem z cs es rest T.Nowhere r k = rest z r k
   sized_turn_lem z cs es rest (T.To b) r k =
@@ -116,17 +112,17 @@ module _ (p : Chosen) (turn : Block → Turned) where
       let m : z.queued + 1 + length q ≡ z.queued + suc (length q) = omega arith in
       let s : z.total + n + length more ≡ z.total + length (encode p.set z.last b ++ more) =
       rw (length-append (encode p.set z.last b) more) (omega arith) in
-      ap (λ (x : Measured). sized_all p turn (with_code z x) cs es) (measured_ready p.set z.last b r.0 k)
+      ap (λ (x : Result Measured QueueError). sized_all p turn (with_code z x) cs es) (measured_ready p.set z.last b r.0 k)
       ∙ rest y r.1 (ready_known p.set b r.0)
       ∙ rw (m, s)
 
-  pub sized_is : (z : Size) (cs : List Block) (es : List Noted) → AllReady p.set (queued_in cs es) → indices_known z.last ≡ true
+  pub sized_is : (z : Size) (cs : List Block) (es : List Outcome) → AllReady p.set (queued_in cs es) → indices_known z.last ≡ true
       → sized_all p turn z cs es ≡ size_then z (queued_in cs es)
   unfolding sized_all turn_events queued_by
   sized_is z [] es r k = size_same z
   sized_is z (c ∷ cs) [] r k = size_same z
   sized_is z (c ∷ cs) (e ∷ es) r k =
-      cases (is_incomplete e.outcome)
+      cases (is_incomplete e)
       (λ t. rw t (sized_turn_lem z cs es (λ y. sized_is y cs es) (turn c) (rw t at r) k))
       (λ t. rw t (sized_is z cs es (rw t at r) k))
 
@@ -144,33 +140,33 @@ paint_means p b op cells h n =
 paint_length : (p : Chosen) (b : Block) (op : Op) (cells : List ℕ) → length (painted_block p b op cells) ≡ length cells
 paint_length p b op cells = painted_cells_length p.width p.height (rectangle_of b.x b.y p.width p.height) op cells
 
-pub marked_length : (p : Chosen) (cells : List ℕ) (cs : List Block) (es : List Noted) → length (marked_all p cells cs es) ≡ length cells
+pub marked_length : (p : Chosen) (cells : List ℕ) (cs : List Block) (es : List Outcome) → length (marked_all p cells cs es) ≡ length cells
 unfolding marked_all
 marked_length p cells [] es = refl
 marked_length p cells (c ∷ cs) [] = refl
 marked_length p cells (c ∷ cs) (e ∷ es) =
-    cases (is_marking e.outcome)
+    cases (is_marking e)
     (λ t. rw t (marked_length p (painted_block p c O.Mark cells) cs es ∙ paint_length p c O.Mark cells))
     (λ t. rw t (marked_length p cells cs es))
 
 -- the marks first, then what follows
-pub marked_is : (p : Chosen) (b : Block) (from new : ℕ) (cells : List ℕ) (cs : List Block) (es : List Noted) (fs : List (Event Block))
+pub marked_is : (p : Chosen) (b : Block) (from new : ℕ) (cells : List ℕ) (cs : List Block) (es : List Outcome) (fs : List (Event Block))
     → leb (pixel_count p) (length cells) ≡ true
     → cells_after p b from new fs (Cells.meanings (marked_all p cells cs es))
-    ≡ cells_after p b from new (mark_events cs (outcomes_in es) ++ fs) (Cells.meanings cells)
+    ≡ cells_after p b from new (mark_events cs es ++ fs) (Cells.meanings cells)
 unfolding marked_all mark_events cells_after Cells.nameable
 marked_is p b from new cells [] es fs h = refl
 marked_is p b from new cells (c ∷ cs) [] fs h = refl
 marked_is p b from new cells (c ∷ cs) (e ∷ es) fs h =
-    cases (is_marking e.outcome)
+    cases (is_marking e)
     (λ t. rw t (marked_is p b from new (painted_block p c O.Mark cells) cs es fs (rw (paint_length p c O.Mark cells) h)
-    ∙ ap (cells_after p b from new (mark_events cs (outcomes_in es) ++ fs)) (paint_means p c O.Mark cells h refl)))
+    ∙ ap (cells_after p b from new (mark_events cs es ++ fs)) (paint_means p c O.Mark cells h refl)))
     (λ t. rw t (marked_is p b from new cells cs es fs h))
 
 -- QUEUEING
 
 appended_ready : (len head used set : ℕ) (back : Last) (b : Block) → fits_ring len head used ≡ true → Ready set b → indices_known back ≡ true
-    → used + length (encode set back b) ≤ len → appended len head used set back b ≡ A.Done (remembered b) (used + length (encode set back b))
+    → used + length (encode set back b) ≤ len → appended len head used set back b ≡ code_appended (remembered b) (used + length (encode set back b))
 unfolding appended
 appended_ready len head used set back b f r k h = rw (f, ready_can set b r, k, ready_as_queued set b r, le-leb (used + length (encode set back b)) len h)
 
@@ -259,15 +255,15 @@ module _ (p : Chosen) (from head : ℕ) (parent : Block) where
   then_give_up w es h = rw (paint_means p parent O.GiveUp w.cells h refl)
 
   module _ (turn : Block → Turned) where
-    carried_turn_lem : (w : Carrying) (cs : List Block) (es : List Noted)
-        → ((v : Carrying) → Roomy v (queued_in p turn cs es) → carried_all p from turn head parent v cs es ≡ carrying_then v (turn_events turn cs (outcomes_in es)))
-        → (t : Turned) → Roomy w (queued_by (turn_event t ∷ turn_events turn cs (outcomes_in es)))
-        → carried_all p from turn head parent (carried_turn p from head parent w t) cs es ≡ carrying_then w (turn_event t ∷ turn_events turn cs (outcomes_in es))
+    carried_turn_lem : (w : Carrying) (cs : List Block) (es : List Outcome)
+        → ((v : Carrying) → Roomy v (queued_in p turn cs es) → carried_all p from turn head parent v cs es ≡ carrying_then v (turn_events turn cs es))
+        → (t : Turned) → Roomy w (queued_by (turn_event t ∷ turn_events turn cs es))
+        → carried_all p from turn head parent (carried_turn p from head parent w t) cs es ≡ carrying_then w (turn_event t ∷ turn_events turn cs es)
     unfolding queued_by
     carried_turn_lem w cs es rest (T.To c) r =
         ap (λ (v : Carrying). carried_all p from turn head parent v cs es) (queued_one_lem c w (queued_in p turn cs es) r)
         ∙ rest (queued_one c w) (roomy_next c w (queued_in p turn cs es) r)
-        ∙ then_next c w (turn_events turn cs (outcomes_in es)) r
+        ∙ then_next c w (turn_events turn cs es) r
     carried_turn_lem w cs es rest T.Nowhere r =
         rest (repainted parent w) (record {
           head_in = r.head_in;
@@ -277,18 +273,18 @@ module _ (p : Chosen) (from head : ℕ) (parent : Block) where
           known = r.known;
           ready = r.ready;
         })
-        ∙ then_give_up w (turn_events turn cs (outcomes_in es)) r.cells_enough
+        ∙ then_give_up w (turn_events turn cs es) r.cells_enough
 
     carried_none : (w : Carrying) → w ≡ carrying_then w []
     unfolding queued_by cells_after Queue.queue_codes Queue.memory stored
     carried_none w = rw (add-zero w.queued, add-zero w.used, codes_meanings w.cells)
 
-    pub carried_is : (w : Carrying) (cs : List Block) (es : List Noted) → Roomy w (queued_in p turn cs es)
-        → carried_all p from turn head parent w cs es ≡ carrying_then w (turn_events turn cs (outcomes_in es))
+    pub carried_is : (w : Carrying) (cs : List Block) (es : List Outcome) → Roomy w (queued_in p turn cs es)
+        → carried_all p from turn head parent w cs es ≡ carrying_then w (turn_events turn cs es)
     unfolding carried_all turn_events queued_by
     carried_is w [] es r = carried_none w
     carried_is w (c ∷ cs) [] r = carried_none w
     carried_is w (c ∷ cs) (e ∷ es) r =
-        cases (is_incomplete e.outcome)
+        cases (is_incomplete e)
         (λ t. rw t (carried_turn_lem w cs es (λ v. carried_is v cs es) (turn c) (rw t at r)))
         (λ t. rw t (carried_is w cs es (rw t at r)))

@@ -1,4 +1,9 @@
 -- The front block that was read, and that what its step queues can be queued. Assumes nothing.
+use Rattle.std.specs.Prelude.{Err}
+use Rattle.queue.specs.declared.QueueError.TheVariants as Q
+use Rattle.queue.specs.Queue.{front_taken}
+use Rattle.queue.specs.Answers.{taken_block, taken_last, taken_head, taken_used}
+use Rattle.std.specs.Prelude.{Option, Some, None}
 use mathlib.Core.Path.{◌≡◌, refl, sym, ap, ◌∙◌}
 use mathlib.Core.Bool.{true, not}
 use mathlib.Core.List.{List}
@@ -12,9 +17,6 @@ use Rattle.base.proofs.ListLaws.{every_also}
 use Rattle.image.specs.Cell as Cells
 use Rattle.queue.specs.declared.Block.{Block}
 use Rattle.queue.specs.declared.Last.{Last}
-use Rattle.queue.specs.declared.Taken.TheVariants as T
-use Rattle.queue.specs.declared.read.BlockRead.{BlockRead}
-use Rattle.queue.specs.declared.read.BlockRead.TheVariants as Rd
 use Rattle.queue.specs.Block.{remembered}
 use Rattle.queue.specs.Ring.{content, fits_ring, wrapped}
 use Rattle.queue.specs.Decode.{decode}
@@ -36,7 +38,7 @@ use Rattle.implicit.proofs.StepLawsKept.{LastHeld, AllReady, read_kept, read_hel
 
 pub record FrontRead (ring : List ℕ) (head used set : ℕ) (front : Last) (b : Block) (last : Last) (head' used' : ℕ) : Type 0 where
   pub size : ℕ
-  pub decodes : decode set front (content ring head used) ≡ Rd.Read b size
+  pub decodes : decode set front (content ring head used) ≡ Some (b, size)
   pub remembers : last ≡ remembered b
   pub next_head : head' ≡ wrapped (length ring) (head + size)
   pub next_used : used' ≡ used - size
@@ -45,37 +47,37 @@ pub record FrontRead (ring : List ℕ) (head used set : ℕ) (front : Last) (b :
   pub used_in : used ≤ length ring
 
 pub front_read : (ring : List ℕ) (head used set : ℕ) (front : Last) (b : Block) (last : Last) (head' used' : ℕ)
-    → taken ring head used set front ≡ T.Front b last head' used'
+    → taken ring head used set front ≡ front_taken b last head' used'
     → FrontRead ring head used set front b last head' used'
 unfolding taken
 front_read ring head used set front b last head' used' e =
     cases (fits_ring (length ring) head used)
     (λ f. go (fits_both (length ring) head used f) (decode set front (content ring head used)) refl (rw f at e))
-    (λ f. (let g : T.Outside ≡ T.Front b last head' used' = rw f at e in let z : ◌≡◌ {A = ℕ} 0 1 = cc in absurd (omega arith)))
+    (λ f. (let g : Err Q.Outside ≡ front_taken b last head' used' = rw f at e in let z : ◌≡◌ {A = ℕ} 0 1 = cc in absurd (omega arith)))
   where
-    go : (head < length ring) × (used ≤ length ring) → (r : BlockRead) → decode set front (content ring head used) ≡ r
-        → taken_with (length ring) head used r ≡ T.Front b last head' used'
+    go : (head < length ring) × (used ≤ length ring) → (r : Option (Block × ℕ)) → decode set front (content ring head used) ≡ r
+        → taken_with (length ring) head used r ≡ front_taken b last head' used'
         → FrontRead ring head used set front b last head' used'
-    go f (Rd.Read c n) d h =
-        let same : c ≡ b = cc in
+    go f (Some (c, n)) d h =
+        let same : c ≡ b = ap taken_block h in
         let k = inside_read (content ring head used) (decode set front (content ring head used)) c n (decode_inside set front (content ring head used)) d in
         let l = content_length ring head used (omega (arith, f.0)) f.1 in
         record {
           size = n;
-          decodes = d ∙ ap (λ (x : Block). Rd.Read x n) same;
-          remembers = (let j : remembered c ≡ last = cc in sym j ∙ ap remembered same);
-          next_head = (let j : wrapped (length ring) (head + n) ≡ head' = cc in sym j);
-          next_used = (let j : used - n ≡ used' = cc in sym j);
+          decodes = d ∙ ap (λ (x : Block). Some (x, n)) same;
+          remembers = sym (ap taken_last h) ∙ ap remembered same;
+          next_head = sym (ap taken_head h);
+          next_used = sym (ap taken_used h);
           size_in = omega (arith, k, l);
           head_in = f.0;
           used_in = f.1;
         }
-    go f Rd.Damaged d h = let z : ◌≡◌ {A = ℕ} 0 1 = cc in absurd (omega arith)
+    go f None d h = let z : ◌≡◌ {A = ℕ} 0 1 = cc in absurd (omega arith)
 
 wrapped_in : (n p : ℕ) → p < n + n → wrapped n p < n
 wrapped_in n p h = by_test (λ x. x < n) (ltb p n) p (p - n) (λ e. ltb-true p n e) (λ e. omega arith)
 
-module _ (s : State) (ring : List ℕ) (b : Block) (last : Last) (head used : ℕ) (f : front_of s ring ≡ T.Front b last head used) where
+module _ (s : State) (ring : List ℕ) (b : Block) (last : Last) (head used : ℕ) (f : front_of s ring ≡ front_taken b last head used) where
   pub front_known : FrontRead ring s.head s.used s.chosen.set s.front b last head used
   front_known = front_read ring s.head s.used s.chosen.set s.front b last head used f
 

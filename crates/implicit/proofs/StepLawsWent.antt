@@ -1,5 +1,8 @@
 -- What a finished step has been through, that nothing else is asked of it, and what follows for a run: its bytes and evaluations are few, and the picture and the buffers' lengths stay.
 -- Assumes nothing.
+use Rattle.std.specs.Prelude.{Result, Ok, Err}
+use Rattle.queue.specs.declared.QueueError.{QueueError}
+use Rattle.queue.specs.Queue.{front_taken}
 use mathlib.Core.Path.{◌≡◌, refl, sym, ap, ◌∙◌}
 use mathlib.Core.Bool.{Bool, true, false}
 use mathlib.Core.List.{List, [], ◌∷◌}
@@ -20,7 +23,6 @@ use Rattle.image.proofs.PaintLaws.{painted_length}
 use Rattle.queue.specs.declared.Block.{Block}
 use Rattle.queue.specs.declared.Last.{Last}
 use Rattle.queue.specs.declared.Taken.{Taken}
-use Rattle.queue.specs.declared.Taken.TheVariants as T
 use Rattle.queue.specs.Ring.{wrapped}
 use Rattle.queue.proofs.RingLaws.{length_stored}
 use Rattle.decide.specs.declared.Chosen.{Chosen}
@@ -43,7 +45,7 @@ pub record Went (tape : Bool) (w : World) (vs : List ℕ) (left : World) (evals 
   pub record_is_sound : sound_record (length w.ring) w.state ≡ true
   pub cells_enough : pixel_count w.state.chosen ≤ length w.cells
   pub not_empty : ltb w.state.taken w.state.queued ≡ true
-  pub front_read : front_of w.state w.ring ≡ T.Front block last head used
+  pub front_read : front_of w.state w.ring ≡ front_taken block last head used
   pub undamaged_block : block_sound w.state.chosen w.cells block ≡ true
   pub enough : enough_verdicts tape (length (children_of w.state.chosen block)) (length vs) ≡ true
   pub own_is : own ≡ take (length (children_of w.state.chosen block)) vs
@@ -68,21 +70,21 @@ went tape w vs left e n h =
     go a.0 (leb-true (pixel_count w.state.chosen) (length w.cells) b.0) c.0 (front_of w.state w.ring) refl c.1
   where
     go : sound_record (length w.ring) w.state ≡ true → pixel_count w.state.chosen ≤ length w.cells → ltb w.state.taken w.state.queued ≡ true
-        → (t : Taken) → front_of w.state w.ring ≡ t → after_taking tape w vs t ≡ finished left e n → Went tape w vs left e n
-    go x y z (T.Front block last head used) f g =
-        let cs = children_of w.state.chosen block in
+        → (t : Result Taken QueueError) → front_of w.state w.ring ≡ t → after_taking tape w vs t ≡ finished left e n → Went tape w vs left e n
+    go x y z (Ok t) f g =
+        let cs = children_of w.state.chosen t.block in
         let own = take (length cs) vs in
-        let d = passed R.Damaged (block_sound w.state.chosen w.cells block) _ left e n g in
+        let d = passed R.Damaged (block_sound w.state.chosen w.cells t.block) _ left e n g in
         let m = passed R.Verdicts (enough_verdicts tape (length cs) (length vs)) _ left e n d.1 in
         let l = passed R.Verdict (all_legal cs own) _ left e n m.1 in
-        let q = passed R.Numbers (leb (w.state.queued + length (new_blocks w block own)) (2 ^ 32)) _ left e n l.1 in
-        let r = passed R.Room (leb (used + length (new_bytes w block own)) (length w.ring)) _ left e n q.1 in
+        let q = passed R.Numbers (leb (w.state.queued + length (new_blocks w t.block own)) (2 ^ 32)) _ left e n l.1 in
+        let r = passed R.Room (leb (t.used + length (new_bytes w t.block own)) (length w.ring)) _ left e n q.1 in
         let k = r.1 in
         record {
-          block = block;
-          last = last;
-          head = head;
-          used = used;
+          block = t.block;
+          last = t.last;
+          head = t.head;
+          used = t.used;
           own = own;
           record_is_sound = x;
           cells_enough = y;
@@ -92,19 +94,18 @@ went tape w vs left e n h =
           enough = m.0;
           own_is = refl;
           legal = l.0;
-          numbers = leb-true (w.state.queued + length (new_blocks w block own)) (2 ^ 32) q.0;
-          room = leb-true (used + length (new_bytes w block own)) (length w.ring) r.0;
-          leaves = (let j : world_left w block last head used own ≡ left = cc in sym j);
-          cost = (let j : evaluations (outcomes_of w block own) ≡ e = cc in sym j);
+          numbers = leb-true (w.state.queued + length (new_blocks w t.block own)) (2 ^ 32) q.0;
+          room = leb-true (t.used + length (new_bytes w t.block own)) (length w.ring) r.0;
+          leaves = (let j : world_left w t.block t.last t.head t.used own ≡ left = cc in sym j);
+          cost = (let j : evaluations (outcomes_of w t.block own) ≡ e = cc in sym j);
           bytes_are = (let j : length cs ≡ n = cc in sym j);
         }
-    go x y z T.Damaged f g = let u : ◌≡◌ {A = ℕ} 0 1 = cc in absurd (omega arith)
-    go x y z T.Outside f g = let u : ◌≡◌ {A = ℕ} 0 1 = cc in absurd (omega arith)
+    go x y z (Err why) f g = let u : ◌≡◌ {A = ℕ} 0 1 = cc in absurd (omega arith)
 
 -- and a step that passes all of that is finished
 pub goes : (tape : Bool) (w : World) (vs : List ℕ) (b : Block) (last : Last) (head used : ℕ) → let cs = children_of w.state.chosen b in let own = take (length cs) vs in
     sound_record (length w.ring) w.state ≡ true → pixel_count w.state.chosen ≤ length w.cells → ltb w.state.taken w.state.queued ≡ true
-    → front_of w.state w.ring ≡ T.Front b last head used → block_sound w.state.chosen w.cells b ≡ true → enough_verdicts tape (length cs) (length vs) ≡ true
+    → front_of w.state w.ring ≡ front_taken b last head used → block_sound w.state.chosen w.cells b ≡ true → enough_verdicts tape (length cs) (length vs) ≡ true
     → all_legal cs own ≡ true → w.state.queued + length (new_blocks w b own) ≤ 2 ^ 32 → used + length (new_bytes w b own) ≤ length w.ring
     → step_with tape w vs ≡ finished (world_left w b last head used own) (evaluations (outcomes_of w b own)) (length cs)
 unfolding step_with after_taking judged unless

@@ -8,6 +8,7 @@ use lib.Dec.{leb}
 use lib.ListN as L
 use lib.ListN.{length}
 use borrow.Author.Tests.{le-leb}
+use Rattle.std.specs.Prelude.{Result, Ok, Err}
 use Rattle.base.proofs.Test.{cases}
 use Rattle.refusal.specs.declared.Refusal.{Refusal}
 use Rattle.refusal.specs.declared.Refusal.TheVariants as R
@@ -23,14 +24,8 @@ use Rattle.tiles.specs.Tiles.{recountable, table_recounted}
 use Rattle.tiles.proofs.RecountLaws.{recounted_done, recount_whole}
 use Rattle.decide.specs.declared.Chosen.{Chosen}
 use Rattle.decide.specs.Damage.{legal_side}
-use Rattle.implicit.specs.declared.setting_up.SetupEnd.{SetupEnd}
-use Rattle.implicit.specs.declared.setting_up.SetupEnd.TheVariants as E
 use Rattle.implicit.specs.declared.state.State.{State}
 use Rattle.implicit.specs.declared.state.Ranges.{Ranges}
-use Rattle.implicit.specs.declared.state.SetupAnswer.{SetupAnswer}
-use Rattle.implicit.specs.declared.state.SetupAnswer.TheVariants as S
-use Rattle.implicit.specs.declared.state.CallAnswer.{CallAnswer}
-use Rattle.implicit.specs.declared.state.CallAnswer.TheVariants as D
 use Rattle.implicit.specs.Record.{refused_unless, pixel_count, sound_record}
 use Rattle.implicit.specs.Setup.{first_blocks, setup_refusal, start_record, start_ring, start_cells}
 use Rattle.implicit.specs.View.{picture_answer, if_done}
@@ -94,7 +89,7 @@ painted_as_many width height r op l =
 -- THE SETUP
 
 -- the cells that an accepted setup leaves are counted whole
-cells_filled : (p : Chosen) (r : Ranges) (ring cells table : List ℕ) → setup_refusal p r (length ring) (length cells) ≡ E.Begun
+cells_filled : (p : Chosen) (r : Ranges) (ring cells table : List ℕ) → setup_refusal p r (length ring) (length cells) ≡ Ok tt
     → room_for_tiles p (length table) ≡ true
     → table_recounted p.width p.height (whole_picture p.width p.height) 0 (start_cells p r cells) table ≡ table_of p 0 (start_cells p r cells) table
 unfolding start_cells
@@ -104,7 +99,7 @@ cells_filled p r ring cells table b room =
     all_recounted p 0 (start_cells p r cells) table k.width_some k.height_some (omega (arith, k.cells, as_many)) room
 
 -- and its table is long enough, where it was not refused by 17
-room_known : (p : Chosen) (r : Ranges) (ring cells table : List ℕ) → setup_refusal p r (length ring) (length cells) ≡ E.Begun
+room_known : (p : Chosen) (r : Ranges) (ring cells table : List ℕ) → setup_refusal p r (length ring) (length cells) ≡ Ok tt
     → ((legal_side p.width && legal_side p.height) && (leb (pixel_count p) (length cells) && not (room_for_tiles p (length table)))) ≡ false
     → room_for_tiles p (length table) ≡ true
 room_known p r ring cells table b h =
@@ -114,23 +109,23 @@ room_known p r ring cells table b h =
 
 module _ (p : Chosen) (r : Ranges) (ring cells table : List ℕ) (t : Bool)
     (is_t : t ≡ ((legal_side p.width && legal_side p.height) && (leb (pixel_count p) (length cells) && not (room_for_tiles p (length table))))) where
-  abbrev tiled : SetupEnd
+  abbrev tiled : Result (Unit {0}) Refusal
   tiled = tiled_setup_refusal p r (length ring) (length cells) (length table)
 
-  abbrev plain : SetupEnd
+  abbrev plain : Result (Unit {0}) Refusal
   plain = setup_refusal p r (length ring) (length cells)
 
   -- what is promised of a setup that took a table
-  abbrev Begins : SetupAnswer → List ℕ → List ℕ → List ℕ → Type 0
+  abbrev Begins : Result State Refusal → List ℕ → List ℕ → List ℕ → Type 0
   Begins a ring' cells' table' =
       (a ≡ tiled_setup_answer p r (length ring) (length cells) (length table))
       × ((ring' ≡ tiled_ring_begun p r ring (length cells) (length table))
       × ((cells' ≡ tiled_cells_begun p r (length ring) cells (length table)) × (table' ≡ table_begun p r (length ring) cells table)))
 
-  pub setup_short : t ≡ true → Begins (S.Refused R.Table) ring cells table
+  pub setup_short : t ≡ true → Begins (Err R.Table) ring cells table
   unfolding tiled_setup_answer tiled_ring_begun tiled_cells_begun table_begun tiled_setup_refusal
   setup_short h =
-      let e : tiled ≡ E.Rejected R.Table =
+      let e : tiled ≡ Err R.Table =
       third_fails (legal_side p.width && legal_side p.height) (leb (pixel_count p) (length cells)) (room_for_tiles p (length table)) _ _ _ _ (sym is_t ∙ h) in
       rw e (refl, (refl, (refl, refl)))
 
@@ -140,36 +135,44 @@ module _ (p : Chosen) (r : Ranges) (ring cells table : List ℕ) (t : Bool)
     same_refusal =
         third_passes (legal_side p.width && legal_side p.height) (leb (pixel_count p) (length cells)) (room_for_tiles p (length table)) _ _ _ _ (sym is_t ∙ h)
 
-    module _ (x : SetupEnd) (is_x : x ≡ plain) where
-      pub setup_refused : (why : Refusal) → x ≡ E.Rejected why → Begins (S.Refused why) ring cells table
-      unfolding tiled_setup_answer tiled_ring_begun tiled_cells_begun table_begun
-      setup_refused why e = let b : tiled ≡ E.Rejected why = same_refusal ∙ sym is_x ∙ e in rw b (refl, (refl, (refl, refl)))
+    pub setup_refused : (q : Chosen) (why : Refusal) → q ≡ p → Err why ≡ setup_refusal q r (length ring) (length cells) → Begins (Err why) ring cells table
+    unfolding tiled_setup_answer tiled_ring_begun tiled_cells_begun table_begun
+    setup_refused q why kept e = let b : tiled ≡ Err why = same_refusal ∙ sym (rw kept at e) in rw b (refl, (refl, (refl, refl)))
 
-      pub setup_filled : (s : State) (ring' cells' table' : List ℕ) → x ≡ E.Begun → s ≡ start_record p r (length ring)
-          → ring' ≡ start_ring p r ring → cells' ≡ start_cells p r cells
-          → table' ≡ table_recounted p.width p.height (whole_picture p.width p.height) 0 cells' table → Begins (S.Ready s) ring' cells' table'
-      unfolding tiled_setup_answer tiled_ring_begun tiled_cells_begun table_begun
-      setup_filled s ring' cells' table' e is_s is_ring is_cells f =
-          let begun : plain ≡ E.Begun = sym is_x ∙ e in
-          let b : tiled ≡ E.Begun = same_refusal ∙ begun in
-          let counted = f
-          ∙ ap (λ (l : List ℕ). table_recounted p.width p.height (whole_picture p.width p.height) 0 l table) is_cells
-          ∙ cells_filled p r ring cells table begun (room_known p r ring cells table begun (sym is_t ∙ h)) in
-          rw b (ap S.Ready is_s, (is_ring, (is_cells, counted)))
+    pub setup_filled : (q : Chosen) (s : State) (ring' cells' table' : List ℕ) → q ≡ p → Ok tt ≡ setup_refusal q r (length ring) (length cells)
+        → s ≡ start_record q r (length ring) → ring' ≡ start_ring q r ring → cells' ≡ start_cells q r cells
+        → table' ≡ table_recounted q.width q.height (whole_picture q.width q.height) 0 cells' table → Begins (Ok s) ring' cells' table'
+    unfolding tiled_setup_answer tiled_ring_begun tiled_cells_begun table_begun
+    setup_filled q s ring' cells' table' kept e is_s is_ring is_cells f =
+        let begun : plain ≡ Ok tt = sym (rw kept at e) in
+        let b : tiled ≡ Ok tt = same_refusal ∙ begun in
+        let counted : table' ≡ table_recounted p.width p.height (whole_picture p.width p.height) 0 cells' table = rw kept at f in
+        let filled : cells' ≡ start_cells p r cells = rw kept at is_cells in
+        rw b (
+          ap Ok (rw kept at is_s),
+          (
+            rw kept at is_ring,
+            (
+              filled,
+              counted ∙ ap (λ (l : List ℕ). table_recounted p.width p.height (whole_picture p.width p.height) 0 l table) filled
+                  ∙ cells_filled p r ring cells table begun (room_known p r ring cells table begun (sym is_t ∙ h)),
+            ),
+          ),
+        )
 
 -- A TABLE FILLED
 
 module _ (s : State) (cells table : List ℕ) (t : Bool)
     (is_t : t ≡ (sound_record s.len s && (leb (pixel_count s.chosen) (length cells) && not (room_for_tiles s.chosen (length table))))) where
-  abbrev Filled : CallAnswer → List ℕ → Type 0
+  abbrev Filled : Result (Unit {0}) Refusal → List ℕ → Type 0
   Filled d table' = (d ≡ fill_answer s cells (length table)) × (table' ≡ if_done d (table_filled s cells table) table)
 
-  pub fill_short : t ≡ true → Filled (D.Refused R.Table) table
+  pub fill_short : t ≡ true → Filled (Err R.Table) table
   unfolding fill_answer
   fill_short h =
       (sym (third_fails (sound_record s.len s) (leb (pixel_count s.chosen) (length cells)) (room_for_tiles s.chosen (length table)) _ _ _ _ (sym is_t ∙ h)), refl)
 
-  module _ (h : t ≡ false) (n : ℕ) (is_n : n ≡ pixel_count s.chosen) (a : CallAnswer) (is_a : a ≡ picture_answer s cells n) where
+  module _ (h : t ≡ false) (n : ℕ) (is_n : n ≡ pixel_count s.chosen) (a : Result (Unit {0}) Refusal) (is_a : a ≡ picture_answer s cells n) where
     as_drawn : a ≡ fill_answer s cells (length table)
     unfolding fill_answer picture_answer
     as_drawn =
@@ -177,12 +180,12 @@ module _ (s : State) (cells table : List ℕ) (t : Bool)
         is_a ∙ rw (is_n, k)
         (sym (third_passes (sound_record s.len s) (leb (pixel_count s.chosen) (length cells)) (room_for_tiles s.chosen (length table)) _ _ _ _ (sym is_t ∙ h)))
 
-    pub fill_refused : (why : Refusal) → a ≡ D.Refused why → Filled (D.Refused why) table
+    pub fill_refused : (why : Refusal) → a ≡ Err why → Filled (Err why) table
     fill_refused why e = (sym e ∙ as_drawn, refl)
 
-    pub fill_done : (table' : List ℕ) → a ≡ D.Done
+    pub fill_done : (table' : List ℕ) → a ≡ Ok tt
         → table' ≡ table_recounted s.chosen.width s.chosen.height (whole_picture s.chosen.width s.chosen.height) s.taken cells table
-        → Filled D.Done table'
+        → Filled (Ok tt) table'
     fill_done table' e f =
         let v = drawn_viewable s cells n (sym is_a ∙ e) in
         let q = (sound_record_lem s.len s v.record_sound).chosen in

@@ -1,27 +1,27 @@
 -- FOR READERS: the number of each call that takes a table, document 02, (iv): the first of these rows that applies, and 0 where none does.
 -- "Refusals: 17 if the table has under four numbers a tile, just after 2, in calls that take a table; there 8 for the block also speaks of every cell in a
 -- touched tile."
+use Rattle.std.specs.Prelude.{Ok}
+use Rattle.queue.specs.declared.QueueError.{QueueError}
 use mathlib.Core.Path.{◌≡◌, refl}
 use mathlib.Core.Bool.{Bool, not, ◌||◌, ◌&&◌}
 use mathlib.Core.List.{List, [], ◌∷◌}
 use Prim.Native.Nat.{ℕ, ◌*◌}
 use lib.Dec.{leb, ltb}
 use lib.ListN.{length}
+use Rattle.std.specs.Prelude.{Err, Result}
 use Rattle.refusal.specs.declared.Refusal.TheVariants as R
+use Rattle.refusal.specs.declared.Refusal.{Refusal}
 use Rattle.refusal.specs.Number.{first_of}
 use Rattle.refusal.proofs.Rows.{row, none, one_fails}
 use Rattle.image.specs.Cell.{is_damaged}
 use Rattle.image.specs.Painting.{some_of}
 use Rattle.tiles.specs.Tiles.{tile_count}
 use Rattle.queue.specs.declared.Taken.{Taken}
-use Rattle.queue.specs.declared.Taken.TheVariants as T
 use Rattle.decide.specs.declared.Chosen.{Chosen}
 use Rattle.decide.specs.Damage.{legal_side}
-use Rattle.implicit.specs.declared.setting_up.SetupEnd.{SetupEnd}
-use Rattle.implicit.specs.declared.setting_up.SetupEnd.TheVariants as E
 use Rattle.implicit.specs.declared.state.State.{State}
 use Rattle.implicit.specs.declared.state.Ranges.{Ranges}
-use Rattle.implicit.specs.declared.state.CallAnswer.TheVariants as D
 use Rattle.implicit.specs.Record.{pixel_count, pixel_cells, sound_record, queue_empty}
 use Rattle.implicit.specs.Setup.{ranges_legal, first_bytes, start_record, started_by}
 use Rattle.implicit.specs.Listing.{front_of}
@@ -48,28 +48,26 @@ pub setup_with_table_number : (p : Chosen) (r : Ranges) (len count room : ℕ)
     ∷ [])
 unfolding tiled_setup_answer tiled_setup_refusal
 setup_with_table_number p r len count room =
-    let f : SetupEnd → ℕ = λ e. setup_number (started_by e (start_record p r len)) in
-    row f (legal_side p.width && legal_side p.height) (E.Rejected R.Side) _ _ _ (one_fails (legal_side p.width) (legal_side p.height)) (λ _.
-    row f (leb (pixel_count p) count) (E.Rejected R.Cells) _ _ _ (fewer (pixel_count p) count) (λ _.
-    row f (room_for_tiles p room) (E.Rejected R.Table) _ _ _ (fewer (4 * tile_count p.width p.height) room) (λ _.
-    row f (ranges_legal p.set r) (E.Rejected R.Parameter) _ _ _ refl (λ _.
-    row f (leb (length (first_bytes p r)) len) (E.Rejected R.Room) _ _ _ (fewer (length (first_bytes p r)) len) (λ _. none)))))
+    let f : Result (Unit {0}) Refusal → ℕ = λ e. setup_number (started_by e (start_record p r len)) in
+    row f (legal_side p.width && legal_side p.height) (Err R.Side) _ _ _ (one_fails (legal_side p.width) (legal_side p.height)) (λ _.
+    row f (leb (pixel_count p) count) (Err R.Cells) _ _ _ (fewer (pixel_count p) count) (λ _.
+    row f (room_for_tiles p room) (Err R.Table) _ _ _ (fewer (4 * tile_count p.width p.height) room) (λ _.
+    row f (ranges_legal p.set r) (Err R.Parameter) _ _ _ refl (λ _.
+    row f (leb (length (first_bytes p r)) len) (Err R.Room) _ _ _ (fewer (length (first_bytes p r)) len) (λ _. none)))))
 
 -- step_with_table, on a tape or a single one: before the rows of the block that was read, 8 for a cell in a tile that it touches
-unfoldable pub tiled_block_rows : Bool → World → List ℕ → Taken → List (ℕ × Bool)
-tiled_block_rows tape w vs T.Damaged = block_rows tape w vs T.Damaged
-tiled_block_rows tape w vs T.Outside = block_rows tape w vs T.Outside
-tiled_block_rows tape w vs (T.Front b last head used) =
-    (8, not (touched_sound w.state.chosen w.cells b)) ∷ block_rows tape w vs (T.Front b last head used)
+unfoldable pub tiled_block_rows : Bool → World → List ℕ → Result Taken QueueError → List (ℕ × Bool)
+tiled_block_rows tape w vs (Err why) = block_rows tape w vs (Err why)
+tiled_block_rows tape w vs (Ok t) =
+    (8, not (touched_sound w.state.chosen w.cells t.block)) ∷ block_rows tape w vs (Ok t)
 
-tiled_block_number : (tape : Bool) (w : World) (vs : List ℕ) (t : Taken)
+tiled_block_number : (tape : Bool) (w : World) (vs : List ℕ) (t : Result Taken QueueError)
     → step_number (step_answer w.state (tiled_after_taking tape w vs t)) ≡ first_of (tiled_block_rows tape w vs t)
 unfolding tiled_after_taking tiled_block_rows block_rows unless
-tiled_block_number tape w vs T.Damaged = unread
-tiled_block_number tape w vs T.Outside = unread
-tiled_block_number tape w vs (T.Front b last head used) =
+tiled_block_number tape w vs (Err why) = unread
+tiled_block_number tape w vs (Ok t) =
     let f : StepEnd → ℕ = λ e. step_number (step_answer w.state e) in
-    row f (touched_sound w.state.chosen w.cells b) (refused R.Damaged) _ _ _ refl (λ _. block_number tape w vs (T.Front b last head used))
+    row f (touched_sound w.state.chosen w.cells t.block) (refused R.Damaged) _ _ _ refl (λ _. block_number tape w vs (Ok t))
 
 pub step_with_table_number : (tape : Bool) (room : ℕ) (w : World) (vs : List ℕ)
     → step_number (step_answer w.state (tiled_step_with tape room w vs))
@@ -114,7 +112,7 @@ pub fill_table_number : (s : State) (cells : List ℕ) (room : ℕ)
 unfolding fill_answer
 fill_table_number s cells room =
     let p = s.chosen in
-    row call_number (sound_record s.len s) (D.Refused R.Damaged) _ _ _ refl (λ _.
-    row call_number (leb (pixel_count p) (length cells)) (D.Refused R.Cells) _ _ _ (fewer (pixel_count p) (length cells)) (λ _.
-    row call_number (room_for_tiles p room) (D.Refused R.Table) _ _ _ (fewer (4 * tile_count p.width p.height) room) (λ _.
-    row call_number (cells_sound s cells) (D.Refused R.Damaged) _ _ _ (not_not (some_of is_damaged (pixel_cells p cells))) (λ _. none))))
+    row call_number (sound_record s.len s) (Err R.Damaged) _ _ _ refl (λ _.
+    row call_number (leb (pixel_count p) (length cells)) (Err R.Cells) _ _ _ (fewer (pixel_count p) (length cells)) (λ _.
+    row call_number (room_for_tiles p room) (Err R.Table) _ _ _ (fewer (4 * tile_count p.width p.height) room) (λ _.
+    row call_number (cells_sound s cells) (Err R.Damaged) _ _ _ (not_not (some_of is_damaged (pixel_cells p cells))) (λ _. none))))

@@ -1,4 +1,5 @@
 -- A run with a table: its steps are the run's own, its loop is the run's, and the table goes along. Assumes nothing.
+use Rattle.queue.specs.declared.QueueError.{QueueError}
 use mathlib.Core.Path.{◌≡◌, refl, sym, ap, ◌∙◌, subst}
 use mathlib.Core.Bool.{Bool, true, false, not, cond}
 use mathlib.Core.List.{List}
@@ -8,26 +9,25 @@ use lib.Dec.{leb}
 use lib.ListN.{length, take, drop}
 use lib.Seq.{drop-drop}
 use borrow.Author.Tests.{leb-true, leb-false, le-leb, lt-leb}
+use Rattle.std.specs.Prelude.{Result, Ok, Err}
 use Rattle.base.proofs.Test.{cases, cond_yes}
 use Rattle.refusal.specs.declared.Refusal.TheVariants as R
 use Rattle.image.specs.Cell.{meanings}
 use Rattle.tiles.specs.Tiles.{touches}
 use Rattle.tiles.proofs.RecountLaws.{recount_length}
 use Rattle.queue.specs.declared.Taken.{Taken}
-use Rattle.queue.specs.declared.Taken.TheVariants as T
 use Rattle.queue.proofs.QueueAnswers.{denied, granted}
 use Rattle.queue.proofs.RingLaws.{rest_all}
 use Rattle.implicit.specs.declared.state.State.{State}
 use Rattle.implicit.specs.declared.state.Ending.TheVariants as E
-use Rattle.implicit.specs.declared.state.StepAnswer.{StepAnswer}
-use Rattle.implicit.specs.declared.state.RunAnswer.{RunAnswer}
-use Rattle.implicit.specs.declared.state.RunAnswer.TheVariants as A
-use Rattle.implicit.specs.declared.running.Progress.{Progress}
+use Rattle.implicit.specs.declared.state.Refused.{Refused}
+use Rattle.implicit.specs.declared.state.Finished.{Finished}
+use Rattle.implicit.specs.declared.state.Ended.{Ended}
 use Rattle.implicit.specs.Record.{pixel_count, sound_record, queue_empty}
 use Rattle.implicit.specs.Listing.{front_of}
 use Rattle.implicit.specs.Step.{World, world_of, StepEnd, refused, finished, world_after}
 use Rattle.implicit.specs.Run.{ended_as, empty_ending, gone_on}
-use Rattle.implicit.specs.RunComputed.{progress_after, progress_once, world_once, OnceGone, RunTo}
+use Rattle.implicit.specs.RunComputed.{HowFar, progress_after, ended_by, progress_once, world_once, OnceGone, RunTo}
 use Rattle.implicit.specs.Tiled.{room_for_tiles, covered_by, tiled_step_with, tiled_tape_step_of, table_taking, table_after, TiledEndsAs}
 use Rattle.implicit.specs.Tiled.{table_on, tiled_run_from, table_run_from, tiled_run_of, TiledRunsAs}
 use Rattle.implicit.specs.TiledComputed.{CleanIf, next_tiled, table_once}
@@ -40,18 +40,18 @@ use Rattle.implicit.proofs.TiledTests.{step_clean}
 -- A STEP OF THE RUN
 
 -- finished, it is the next step of the run without a table
-pub next_plain : (room : ℕ) (p : Progress) (ring cells tape : List ℕ) → AsNext p ring cells tape (next_tiled room p ring cells tape)
+pub next_plain : (room : ℕ) (p : HowFar) (ring cells tape : List ℕ) → AsNext p ring cells tape (next_tiled room p ring cells tape)
 next_plain room p ring cells tape left e n h = finished_plain true room (world_of p.state ring cells) (drop p.tape tape) left e n h
 
 -- it was lent the rest of the tape
-pub tiled_rest : (p : Progress) (ring cells tape table : List ℕ) (a : StepAnswer) (ring' cells' table' : List ℕ)
+pub tiled_rest : (p : HowFar) (ring cells tape table : List ℕ) (a : Result Finished Refused) (ring' cells' table' : List ℕ)
     → TiledEndsAs (world_of p.state ring cells) table
     (tiled_step_with true (length table) (world_of p.state ring cells) (take (length tape - p.tape) (drop p.tape tape))) a ring' cells' table'
     → TiledEndsAs (world_of p.state ring cells) table (next_tiled (length table) p ring cells tape) a ring' cells' table'
 tiled_rest p ring cells tape table a ring' cells' table' h = rw (rest_all tape p.tape) at h
 
 -- what the loop leaves of clean cells is clean
-pub once_clean : (clean : Bool) (budget room : ℕ) (p : Progress) (ring cells tape : List ℕ) (q : Progress) (ring' cells' : List ℕ)
+pub once_clean : (clean : Bool) (budget room : ℕ) (p : HowFar) (ring cells tape : List ℕ) (q : HowFar) (ring' cells' : List ℕ)
     → world_of q.state ring' cells' ≡ world_once budget p (world_of p.state ring cells) (next_tiled room p ring cells tape)
     → CleanIf clean p.state.chosen cells → CleanIf clean q.state.chosen cells'
 unfolding world_once
@@ -73,7 +73,7 @@ once_clean clean budget room p ring cells tape q ring' cells' e k =
 
 -- THE TABLE AFTER ONE PASS, by the tests that the code makes
 
-module _ (budget : ℕ) (p : Progress) (w : World) (next : StepEnd) (table : List ℕ) (t : Bool) (is_t : t ≡ queue_empty p.state) where
+module _ (budget : ℕ) (p : HowFar) (w : World) (next : StepEnd) (table : List ℕ) (t : Bool) (is_t : t ≡ queue_empty p.state) where
   pub table_empty : t ≡ true → table ≡ table_once budget p w next table
   unfolding table_once
   table_empty h = let u : queue_empty p.state ≡ true = sym is_t ∙ h in rw u
@@ -113,10 +113,10 @@ runs_tiled room = record {
 }
 
 -- the table that what is left of the run leaves
-abbrev table_left : ℕ → List ℕ → Progress → World → List ℕ → List ℕ
+abbrev table_left : ℕ → List ℕ → HowFar → World → List ℕ → List ℕ
 table_left budget tape p w table = cond p.going (table_run_from (budget - p.steps) w (drop p.tape tape) table) table
 
-unfoldable pub table_to_come : ℕ → List ℕ → Progress → List ℕ → List ℕ → List ℕ → List ℕ
+unfoldable pub table_to_come : ℕ → List ℕ → HowFar → List ℕ → List ℕ → List ℕ → List ℕ
 table_to_come budget tape p ring cells table = table_left budget tape p (world_of p.state ring cells) table
 
 table_ends : (budget : ℕ) (w : World) (tape table : List ℕ) → queue_empty w.state ≡ true → table_run_from budget w tape table ≡ table
@@ -140,14 +140,13 @@ unfolding table_after
 table_length w table (refused why) = refl
 table_length w table (finished left evals bytes) = go (front_of w.state w.ring)
   where
-    go : (t : Taken) → length (table_taking t left table) ≡ length table
-    go (T.Front b last head used) =
+    go : (t : Result Taken QueueError) → length (table_taking t left table) ≡ length table
+    go (Ok t) =
         let p = left.state.chosen in
-        recount_length (touches p.width p.height (covered_by p b)) p.width p.height left.state.taken (meanings left.cells) table
-    go T.Damaged = refl
-    go T.Outside = refl
+        recount_length (touches p.width p.height (covered_by p t.block)) p.width p.height left.state.taken (meanings left.cells) table
+    go (Err why) = refl
 
-pub once_length : (budget : ℕ) (p : Progress) (w : World) (next : StepEnd) (table table' : List ℕ) → table' ≡ table_once budget p w next table
+pub once_length : (budget : ℕ) (p : HowFar) (w : World) (next : StepEnd) (table table' : List ℕ) → table' ≡ table_once budget p w next table
     → length table' ≡ length table
 unfolding table_once
 once_length budget p w next table table' e =
@@ -156,14 +155,14 @@ once_length budget p w next table table' e =
     (λ f. cases (leb budget p.steps) (λ g. rw (f, g)) (λ g. rw (f, g) (table_length w table next)))
 
 -- so that a step by its length now is one by its length at first
-pub by_room : (room room' budget : ℕ) (p : Progress) (ring cells tape : List ℕ) (q : Progress) (ring' cells' : List ℕ) → room ≡ room'
+pub by_room : (room room' budget : ℕ) (p : HowFar) (ring cells tape : List ℕ) (q : HowFar) (ring' cells' : List ℕ) → room ≡ room'
     → OnceGone budget p (world_of p.state ring cells) (next_tiled room p ring cells tape) q ring' cells'
     → OnceGone budget p (world_of p.state ring cells) (next_tiled room' p ring cells tape) q ring' cells'
 by_room room room' budget p ring cells tape q ring' cells' e h =
     subst (λ (n : ℕ). OnceGone budget p (world_of p.state ring cells) (next_tiled n p ring cells tape) q ring' cells') e h
 
 -- what the rest of the run makes of the table is what was to come of it
-module _ (budget : ℕ) (tape : List ℕ) (p : Progress) (ring cells table : List ℕ) (going : p.going ≡ true) where
+module _ (budget : ℕ) (tape : List ℕ) (p : HowFar) (ring cells table : List ℕ) (going : p.going ≡ true) where
   abbrev from : World
   from = world_of p.state ring cells
 
@@ -204,7 +203,7 @@ module _ (budget : ℕ) (tape : List ℕ) (p : Progress) (ring cells table : Lis
           let z : budget - p.steps ≡ 0 = omega arith in
           sym (ap (λ (n : ℕ). table_run_from n from (drop p.tape tape) table) z ∙ table_stops from (drop p.tape tape) table)
 
-  pub table_pass : (q : Progress) (ring' cells' table' : List ℕ) → q ≡ progress_once budget p cells step
+  pub table_pass : (q : HowFar) (ring' cells' table' : List ℕ) → q ≡ progress_once budget p cells step
       → world_of q.state ring' cells' ≡ world_once budget p from step → table' ≡ table_once budget p from step table
       → table_to_come budget tape q ring' cells' table' ≡ table_to_come budget tape p ring cells table
   unfolding table_to_come
@@ -216,7 +215,7 @@ pub table_start : (budget : ℕ) (s : State) (ring cells tape table : List ℕ)
 unfolding table_to_come
 table_start budget s ring cells tape table = let z : budget - 0 ≡ budget = omega arith in rw z
 
-pub table_end : (budget : ℕ) (p : Progress) (ring cells tape table : List ℕ) → p.going ≡ false → table ≡ table_to_come budget tape p ring cells table
+pub table_end : (budget : ℕ) (p : HowFar) (ring cells tape table : List ℕ) → p.going ≡ false → table ≡ table_to_come budget tape p ring cells table
 unfolding table_to_come
 table_end budget p ring cells tape table e = rw e
 
@@ -227,10 +226,10 @@ module _ (budget : ℕ) (s : State) (ring cells tape table : List ℕ) (t : Bool
   given = world_of s ring cells
 
   -- what a run answered and left is what is promised of it
-  abbrev Said : RunAnswer → List ℕ → List ℕ → List ℕ → Type 0
+  abbrev Said : Result Ended Refused → List ℕ → List ℕ → List ℕ → Type 0
   Said r ring' cells' table' = TiledRunsAs budget given tape table (tiled_run_of budget (length table) given tape) r ring' cells' table'
 
-  pub tiled_damaged : not t ≡ true → Said (A.Refused R.Damaged s) ring cells table
+  pub tiled_damaged : not t ≡ true → Said (Err (record { why = R.Damaged; state = s })) ring cells table
   unfolding tiled_run_of
   tiled_damaged h = let u : sound_record (length ring) s ≡ false = sym is_t ∙ denied t h in rw u ((refl, refl, refl), refl)
 
@@ -238,7 +237,7 @@ module _ (budget : ℕ) (s : State) (ring cells tape table : List ℕ) (t : Bool
     record_sound : sound_record (length ring) s ≡ true
     record_sound = sym is_t ∙ granted t h
 
-    pub tiled_short : length cells < n → Said (A.Refused R.Cells s) ring cells table
+    pub tiled_short : length cells < n → Said (Err (record { why = R.Cells; state = s })) ring cells table
     unfolding tiled_run_of
     tiled_short k = rw (record_sound, lt-leb (pixel_count s.chosen) (length cells) (rw is_n at k)) ((refl, refl, refl), refl)
 
@@ -246,7 +245,7 @@ module _ (budget : ℕ) (s : State) (ring cells tape table : List ℕ) (t : Bool
       cells_enough : leb (pixel_count s.chosen) (length cells) ≡ true
       cells_enough = le-leb (pixel_count s.chosen) (length cells) (rw is_n at k)
 
-      pub tiled_table : not m ≡ true → Said (A.Refused R.Table s) ring cells table
+      pub tiled_table : not m ≡ true → Said (Err (record { why = R.Table; state = s })) ring cells table
       unfolding tiled_run_of
       tiled_table g = rw (record_sound, cells_enough, sym is_m ∙ denied m g) ((refl, refl, refl), refl)
 
@@ -257,15 +256,15 @@ module _ (budget : ℕ) (s : State) (ring cells tape table : List ℕ) (t : Bool
         pub tiled_begins : (leb (pixel_count s.chosen) (length cells) ≡ true) × (sound_record (length ring) s ≡ true)
         tiled_begins = (cells_enough, record_sound)
 
-        pub tiled_done : (p : Progress) (r : RunAnswer) (ring' cells' table' : List ℕ)
+        pub tiled_done : (p : HowFar) (r : Ended) (ring' cells' table' : List ℕ)
             → RunTo (tiled_run_from (length table) budget given tape) p ring' cells'
-            → r ≡ A.Ended p.state p.steps p.evaluations p.tape p.ending → table' ≡ table_run_from budget given tape table
-            → Said r ring' cells' table'
+            → r ≡ ended_by p → table' ≡ table_run_from budget given tape table
+            → Said (Ok r) ring' cells' table'
         unfolding tiled_run_of
         tiled_done p r ring' cells' table' to e f =
             rw (record_sound, cells_enough, table_enough) (
               (
-                e ∙ rw (ap (λ (x : World). x.state) to.world, to.steps, to.evaluations, to.tape, to.ending),
+                ap Ok e ∙ rw (ap (λ (x : World). x.state) to.world, to.steps, to.evaluations, to.tape, to.ending),
                 ap (λ (x : World). x.ring) to.world,
                 ap (λ (x : World). x.cells) to.world,
               ),

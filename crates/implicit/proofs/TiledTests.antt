@@ -1,4 +1,5 @@
 -- What a step with a table is about to touch, by the tests that the code makes. Assumes nothing.
+use Rattle.queue.specs.declared.QueueError.{QueueError}
 use mathlib.Core.Path.{◌≡◌, sym, ap, ◌∙◌, refl}
 use mathlib.Core.Bool.{Bool, true, false, not, cond, false≢true}
 use mathlib.Core.List.{List}
@@ -6,10 +7,12 @@ use Prim.Native.Nat.{ℕ, ◌*◌, ◌≤◌, ◌<◌}
 use lib.Dec.{leb, ltb}
 use lib.ListN.{length}
 use borrow.Author.Tests.{leb-true, le-leb, lt-leb, lt-ltb, le-ltb}
+use Rattle.std.specs.Prelude.{Result, Ok, Err, Option, Some, None}
+use Rattle.std.specs.Option.{unwrap_or}
 use Rattle.base.proofs.Test.{cond_yes}
 use Rattle.refusal.specs.declared.Refusal.TheVariants as R
+use Rattle.refusal.specs.declared.Refusal.{Refusal}
 use Rattle.image.specs.declared.PixelRange.{PixelRange}
-use Rattle.image.specs.declared.Seen.{Seen}
 use Rattle.image.specs.Cell.{is_damaged}
 use Rattle.image.specs.Painting.{some_of}
 use Rattle.image.proofs.RangeLaws.{rectangle_in_picture}
@@ -19,8 +22,6 @@ use Rattle.queue.specs.declared.Taken.{Taken}
 use Rattle.queue.proofs.QueueAnswers.{denied, granted}
 use Rattle.decide.specs.declared.Chosen.{Chosen}
 use Rattle.implicit.specs.declared.state.State.{State}
-use Rattle.implicit.specs.declared.tiled.Touched.{Touched}
-use Rattle.implicit.specs.declared.tiled.Touched.TheVariants as To
 use Rattle.implicit.specs.Record.{pixel_count, pixel_cells, sound_record}
 use Rattle.implicit.specs.Listing.{front_of}
 use Rattle.implicit.specs.Step.{World, finished, step_with}
@@ -32,18 +33,20 @@ use Rattle.implicit.proofs.CellsWhole.{whole_touched, looked_whole, whole_looked
 
 -- BY THE BLOCK
 
--- what is seen of the touched tiles
-abbrev pub touch_seen : PixelRange → Seen → Touched
-touch_seen r s = cond (none_seen s) (To.At r) (To.Refused R.Damaged)
-
-pub block_touch : (p : Chosen) (cells : List ℕ) (b : Block) (r : PixelRange) (s v : Seen) → r ≡ covered_by p b
-    → s ≡ touched_damaged p.width p.height r cells → s ≡ v → touch_seen r v ≡ touch_block p cells b
+-- by what is seen of the touched tiles
+pub block_touch : (p : Chosen) (cells : List ℕ) (b : Block) (r : PixelRange) (s : Option Bool) (t : Bool) → r ≡ covered_by p b
+    → s ≡ touched_damaged p.width p.height r cells → t ≡ unwrap_or s true → cond t (Err R.Damaged) (Ok r) ≡ touch_block p cells b
 unfolding touch_block
-block_touch p cells b r s v e f g = rw (← g, f, e)
+block_touch p cells b r s t e f g = rw (← e, ← f, g) (go s)
+  where
+    go : (s : Option Bool) → ◌≡◌ {A = Result PixelRange Refusal} (cond (unwrap_or s true) (Err R.Damaged) (Ok r)) (cond (none_seen s) (Ok r) (Err R.Damaged))
+    go (Some true) = refl
+    go (Some false) = refl
+    go None = refl
 
 -- where the pixels' cells are clean, nothing is to be seen
 pub block_clean : (clean : Bool) (p : Chosen) (cells : List ℕ) (b : Block) (r : PixelRange) → CleanIf clean p cells → clean ≡ true → r ≡ covered_by p b
-    → To.At r ≡ touch_block p cells b
+    → Ok r ≡ touch_block p cells b
 unfolding touch_block
 block_clean clean p cells b r k e f =
     let h = k e in
@@ -85,21 +88,21 @@ step_clean clean tape w vs left e n h k c =
 
 -- BY THE FRONT BLOCK
 
-pub front_empty : (w : World) → w.state.queued ≤ w.state.taken → To.Refused R.Empty ≡ touch_front w
+pub front_empty : (w : World) → w.state.queued ≤ w.state.taken → Err R.Empty ≡ touch_front w
 unfolding touch_front
 front_empty w h = rw (le-ltb w.state.taken w.state.queued h)
 
-pub front_touch : (w : World) (t : Taken) (a : Touched) → w.state.taken < w.state.queued → t ≡ front_of w.state w.ring
+pub front_touch : (w : World) (t : Result Taken QueueError) (a : Result PixelRange Refusal) → w.state.taken < w.state.queued → t ≡ front_of w.state w.ring
     → a ≡ touch_taken w.state.chosen w.cells t → a ≡ touch_front w
 unfolding touch_front
 front_touch w t a h e f =
     f ∙ ap (touch_taken w.state.chosen w.cells) e
-    ∙ sym (cond_yes (ltb w.state.taken w.state.queued) _ (To.Refused R.Empty) (lt-ltb w.state.taken w.state.queued h))
+    ∙ sym (cond_yes (ltb w.state.taken w.state.queued) _ (Err R.Empty) (lt-ltb w.state.taken w.state.queued h))
 
 -- BY THE RECORD
 
 module _ (room : ℕ) (w : World) (t : Bool) (is_t : t ≡ sound_record (length w.ring) w.state) where
-  pub touch_damaged : not t ≡ true → To.Refused R.Damaged ≡ touch_of room w
+  pub touch_damaged : not t ≡ true → Err R.Damaged ≡ touch_of room w
   unfolding touch_of
   touch_damaged h = let u : sound_record (length w.ring) w.state ≡ false = sym is_t ∙ denied t h in rw u
 
@@ -107,7 +110,7 @@ module _ (room : ℕ) (w : World) (t : Bool) (is_t : t ≡ sound_record (length 
     sound : sound_record (length w.ring) w.state ≡ true
     sound = sym is_t ∙ granted t h
 
-    pub touch_short : length w.cells < n → To.Refused R.Cells ≡ touch_of room w
+    pub touch_short : length w.cells < n → Err R.Cells ≡ touch_of room w
     unfolding touch_of
     touch_short k = rw (sound, lt-leb (pixel_count w.state.chosen) (length w.cells) (rw is_n at k))
 
@@ -115,10 +118,10 @@ module _ (room : ℕ) (w : World) (t : Bool) (is_t : t ≡ sound_record (length 
       enough : leb (pixel_count w.state.chosen) (length w.cells) ≡ true
       enough = le-leb (pixel_count w.state.chosen) (length w.cells) (rw is_n at k)
 
-      pub touch_table : not m ≡ true → To.Refused R.Table ≡ touch_of room w
+      pub touch_table : not m ≡ true → Err R.Table ≡ touch_of room w
       unfolding touch_of
       touch_table g = rw (sound, enough, sym is_m ∙ denied m g)
 
-      pub touch_goes : not m ≡ false → (a : Touched) → a ≡ touch_front w → a ≡ touch_of room w
+      pub touch_goes : not m ≡ false → (a : Result PixelRange Refusal) → a ≡ touch_front w → a ≡ touch_of room w
       unfolding touch_of
       touch_goes g a e = rw (sound, enough, sym is_m ∙ granted m g) e

@@ -10,6 +10,7 @@ use lib.ListN.{length, get_or, take, drop, length-append, length-drop}
 use lib.ListN as L
 use lib.Seq.{length-take-le, take_at, drop_at}
 use borrow.Author.Tests.{le-leb, lt-leb, leb-true, not-true, not-false}
+use Rattle.std.specs.Prelude.{Result, Ok, Err, Option, Some, None}
 use Rattle.base.proofs.ListLaws.{map_at}
 use Rattle.refusal.specs.declared.Refusal.{Refusal}
 use Rattle.refusal.specs.declared.Refusal.TheVariants as R
@@ -18,8 +19,6 @@ use Rattle.image.specs.declared.Reading.{Reading}
 use Rattle.image.specs.declared.Reading.TheVariants as G
 use Rattle.image.specs.declared.CellTally.{CellTally}
 use Rattle.image.specs.declared.PixelRange.{PixelRange}
-use Rattle.image.specs.declared.CellTallyAnswer.{CellTallyAnswer}
-use Rattle.image.specs.declared.CellTallyAnswer.TheVariants as A
 use Rattle.image.specs.Cell.{Cell, Named, Marked, GivenUp, Other, meaning_of, meanings, reading, byte_of, shown_byte}
 use Rattle.image.specs.Cell.{is_damaged, is_given_up, of_kind, count_of, is_true, is_false, is_uncertain, tallied, share_of}
 use Rattle.image.specs.Range.{cell_index, whole_picture}
@@ -31,10 +30,6 @@ use Rattle.image.proofs.DrawLaws.{drawn_all}
 use Rattle.decide.specs.declared.Chosen.{Chosen}
 use Rattle.implicit.specs.declared.state.State.{State}
 use Rattle.implicit.specs.declared.state.Tally.{Tally}
-use Rattle.implicit.specs.declared.state.CountsAnswer.{CountsAnswer}
-use Rattle.implicit.specs.declared.state.CountsAnswer.TheVariants as C
-use Rattle.implicit.specs.declared.state.CallAnswer.{CallAnswer}
-use Rattle.implicit.specs.declared.state.CallAnswer.TheVariants as D
 use Rattle.implicit.specs.Record.{pixel_count, pixel_cells, sound_record}
 use Rattle.implicit.specs.View.{cells_sound, picture_bytes, picture_left, picture_answer, counts_from, counts_of, counts_answer}
 use Rattle.implicit.proofs.RecordLaws.{sound_chosen, pixels_some, pixels_most, pixel_cells_lem, pixel_cells_length, pixel_cell_at, whole_ready}
@@ -69,21 +64,21 @@ pub test_failed : (t x : Bool) → t ≡ x → not t ≡ true → x ≡ false
 test_failed t x e h = sym e ∙ not-true t h
 
 module _ (s : State) (cells : List ℕ) (room : ℕ) where
-  pub refused_record : sound_record s.len s ≡ false → picture_answer s cells room ≡ D.Refused R.Damaged
+  pub refused_record : sound_record s.len s ≡ false → picture_answer s cells room ≡ Err R.Damaged
   unfolding picture_answer
   refused_record h = rw h
 
-  pub refused_cells : sound_record s.len s ≡ true → length cells < pixel_count s.chosen → picture_answer s cells room ≡ D.Refused R.Cells
+  pub refused_cells : sound_record s.len s ≡ true → length cells < pixel_count s.chosen → picture_answer s cells room ≡ Err R.Cells
   unfolding picture_answer
   refused_cells h k = rw (h, lt-leb (pixel_count s.chosen) (length cells) k)
 
   pub refused_room : sound_record s.len s ≡ true → pixel_count s.chosen ≤ length cells → room < pixel_count s.chosen
-      → picture_answer s cells room ≡ D.Refused R.Picture
+      → picture_answer s cells room ≡ Err R.Picture
   unfolding picture_answer
   refused_room h k m = rw (h, le-leb (pixel_count s.chosen) (length cells) k, lt-leb (pixel_count s.chosen) room m)
 
   pub refused_cell : sound_record s.len s ≡ true → pixel_count s.chosen ≤ length cells → pixel_count s.chosen ≤ room → cells_sound s cells ≡ false
-      → picture_answer s cells room ≡ D.Refused R.Damaged
+      → picture_answer s cells room ≡ Err R.Damaged
   unfolding picture_answer
   refused_cell h k m f = rw (h, le-leb (pixel_count s.chosen) (length cells) k, le-leb (pixel_count s.chosen) room m, f)
 
@@ -94,16 +89,19 @@ pub record Viewable (s : State) (cells : List ℕ) (room : ℕ) : Type 0 where
   pub room_left : pixel_count s.chosen ≤ room
   pub cells_fine : cells_sound s cells ≡ true
 
-pub viewable_drawn : (s : State) (cells : List ℕ) (room : ℕ) → Viewable s cells room → picture_answer s cells room ≡ D.Done
+pub viewable_drawn : (s : State) (cells : List ℕ) (room : ℕ) → Viewable s cells room → picture_answer s cells room ≡ Ok tt
 unfolding picture_answer
 viewable_drawn s cells room v =
     rw (v.record_sound, le-leb (pixel_count s.chosen) (length cells) v.enough, le-leb (pixel_count s.chosen) room v.room_left, v.cells_fine)
 
-never : (why : Refusal) {P : Type 0} → D.Refused why ≡ D.Done → P
+abbrev Called : Type 0
+Called = Result (Unit {0}) Refusal
+
+never : (why : Refusal) {P : Type 0} → ◌≡◌ {A = Called} (Err why) (Ok tt) → P
 never why e = let z : ◌≡◌ {A = ℕ} 0 1 = cc in absurd (omega arith)
 
 four : (a b c d : Bool)
-    → cond a (cond b (cond c (cond d D.Done (D.Refused R.Damaged)) (D.Refused R.Picture)) (D.Refused R.Cells)) (D.Refused R.Damaged) ≡ D.Done
+    → ◌≡◌ {A = Called} (cond a (cond b (cond c (cond d (Ok tt) (Err R.Damaged)) (Err R.Picture)) (Err R.Cells)) (Err R.Damaged)) (Ok tt)
     → (a ≡ true) × (b ≡ true) × (c ≡ true) × (d ≡ true)
 four true true true true e = (refl, refl, refl, refl)
 four true true true false e = never R.Damaged e
@@ -111,7 +109,7 @@ four true true false d e = never R.Picture e
 four true false c d e = never R.Cells e
 four false b c d e = never R.Damaged e
 
-pub drawn_viewable : (s : State) (cells : List ℕ) (room : ℕ) → picture_answer s cells room ≡ D.Done → Viewable s cells room
+pub drawn_viewable : (s : State) (cells : List ℕ) (room : ℕ) → picture_answer s cells room ≡ Ok tt → Viewable s cells room
 unfolding picture_answer
 drawn_viewable s cells room e =
     let n = pixel_count s.chosen in
@@ -119,9 +117,9 @@ drawn_viewable s cells room e =
     record { record_sound = f.0; enough = leb-true n (length cells) f.1; room_left = leb-true n room f.2; cells_fine = f.3 }
 
 -- the counts are refused as a picture is that has room
-abbrev pub counted_if : CallAnswer → Tally → CountsAnswer
-counted_if D.Done n = C.Of n
-counted_if (D.Refused why) n = C.Refused why
+abbrev pub counted_if : Called → Tally → Result Tally Refusal
+counted_if (Ok u) n = Ok n
+counted_if (Err why) n = Err why
 
 pub counts_as_picture : (s : State) (cells : List ℕ) (room : ℕ) → room ≡ pixel_count s.chosen
     → counted_if (picture_answer s cells room) (counts_of s cells) ≡ counts_answer s cells
@@ -131,20 +129,20 @@ counts_as_picture s cells room e =
     (go (sound_record s.len s) (leb (pixel_count s.chosen) (length cells)) (cells_sound s cells))
   where
     go : (a b d : Bool)
-        → counted_if (cond a (cond b (cond d D.Done (D.Refused R.Damaged)) (D.Refused R.Cells)) (D.Refused R.Damaged)) (counts_of s cells)
-        ≡ cond a (cond b (cond d (C.Of (counts_of s cells)) (C.Refused R.Damaged)) (C.Refused R.Cells)) (C.Refused R.Damaged)
+        → counted_if (cond a (cond b (cond d (Ok tt) (Err R.Damaged)) (Err R.Cells)) (Err R.Damaged)) (counts_of s cells)
+        ≡ cond a (cond b (cond d (Ok (counts_of s cells)) (Err R.Damaged)) (Err R.Cells)) (Err R.Damaged)
     go true true true = refl
     go true true false = refl
     go true false d = refl
     go false b d = refl
 
 pub counts_done : (s : State) (cells : List ℕ) (room : ℕ) → room ≡ pixel_count s.chosen
-    → picture_answer s cells room ≡ D.Done → counts_answer s cells ≡ C.Of (counts_of s cells)
-counts_done s cells room e d = sym (counts_as_picture s cells room e) ∙ ap (λ (a : CallAnswer). counted_if a (counts_of s cells)) d
+    → picture_answer s cells room ≡ Ok tt → counts_answer s cells ≡ Ok (counts_of s cells)
+counts_done s cells room e d = sym (counts_as_picture s cells room e) ∙ ap (λ (a : Called). counted_if a (counts_of s cells)) d
 
-pub counts_refused : (s : State) (cells : List ℕ) (room : ℕ) (why : Refusal) → room ≡ pixel_count s.chosen → picture_answer s cells room ≡ D.Refused why
-    → counts_answer s cells ≡ C.Refused why
-counts_refused s cells room why e d = sym (counts_as_picture s cells room e) ∙ ap (λ (a : CallAnswer). counted_if a (counts_of s cells)) d
+pub counts_refused : (s : State) (cells : List ℕ) (room : ℕ) (why : Refusal) → room ≡ pixel_count s.chosen → picture_answer s cells room ≡ Err why
+    → counts_answer s cells ≡ Err why
+counts_refused s cells room why e d = sym (counts_as_picture s cells room e) ∙ ap (λ (a : Called). counted_if a (counts_of s cells)) d
 
 -- BYTE BY BYTE
 
@@ -233,18 +231,18 @@ settled_few p taken l t h e =
     omega arith
 
 -- what `image` counts of the whole picture
-pub whole_tallied : (s : State) (cells : List ℕ) (r : PixelRange) (a : CellTallyAnswer) → pixel_count s.chosen ≤ length cells
+pub whole_tallied : (s : State) (cells : List ℕ) (r : PixelRange) (a : Option CellTally) → pixel_count s.chosen ≤ length cells
     → r ≡ whole_picture s.chosen.width s.chosen.height → a ≡ tally_answer s.chosen.width s.chosen.height r s.taken cells
-    → a ≡ A.Of (tallied s.taken (pixel_cells s.chosen cells))
+    → a ≡ Some (tallied s.taken (pixel_cells s.chosen cells))
 whole_tallied s cells r a enough e f =
     let p = s.chosen in
     f ∙ ap (λ (x : PixelRange). tally_answer p.width p.height x s.taken cells) e
     ∙ tally_answered p.width p.height (whole_picture p.width p.height) s.taken cells (whole_ready p (length cells) enough)
 
-pub same_tally : (a : CellTallyAnswer) (k t : CellTally) → a ≡ A.Of k → a ≡ A.Of t → t ≡ k
+pub same_tally : (a : Option CellTally) (k t : CellTally) → a ≡ Some k → a ≡ Some t → t ≡ k
 same_tally a k t e f = cc
 
-pub never_outside : (a : CellTallyAnswer) (k : CellTally) {P : Type 0} → a ≡ A.Of k → a ≡ A.Outside → P
+pub never_outside : (a : Option CellTally) (k : CellTally) {P : Type 0} → a ≡ Some k → a ≡ None → P
 never_outside a k e f = let z : ◌≡◌ {A = ℕ} 0 1 = cc in absurd (omega arith)
 
 -- as many as the pixels, or fewer, fit 32 bits
@@ -268,16 +266,16 @@ unfolding counts_from
 counts_given_up s cells = given_up_uncertain s.taken (pixel_cells s.chosen cells)
 
 -- what is answered, of a record and cells as they must be
-pub counted_viewable : (s : State) (cells : List ℕ) (t : Tally) → counts_answer s cells ≡ C.Of t
+pub counted_viewable : (s : State) (cells : List ℕ) (t : Tally) → counts_answer s cells ≡ Ok t
     → Viewable s cells (pixel_count s.chosen) × (t ≡ counts_of s cells)
 counted_viewable s cells t e = go (picture_answer s cells n) refl
   where
     n : ℕ
     n = pixel_count s.chosen
 
-    go : (d : CallAnswer) → picture_answer s cells n ≡ d → Viewable s cells n × (t ≡ counts_of s cells)
-    go D.Done f = let g = sym e ∙ counts_done s cells n refl f in (drawn_viewable s cells n f, cc)
-    go (D.Refused why) f = let g = sym e ∙ counts_refused s cells n why refl f in let z : ◌≡◌ {A = ℕ} 0 1 = cc in absurd (omega arith)
+    go : (d : Called) → picture_answer s cells n ≡ d → Viewable s cells n × (t ≡ counts_of s cells)
+    go (Ok tt) f = let g = sym e ∙ counts_done s cells n refl f in (drawn_viewable s cells n f, cc)
+    go (Err why) f = let g = sym e ∙ counts_refused s cells n why refl f in let z : ◌≡◌ {A = ℕ} 0 1 = cc in absurd (omega arith)
 
 -- the share is 1000 exactly if every pixel is settled, so exactly if none is uncertain
 pub counts_settled : (s : State) (cells : List ℕ) → sound_record s.len s ≡ true → pixel_count s.chosen ≤ length cells

@@ -4,7 +4,6 @@ pub mod Setup
 pub mod SetupComputed
 pub mod Listing
 pub mod Step
-pub mod DecisionComputed
 pub mod StepComputed
 pub mod Run
 pub mod RunComputed

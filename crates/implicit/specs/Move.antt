@@ -1,13 +1,12 @@
 -- A queue moved to another ring, longer or shorter: added. The same blocks in the same order, their codes from byte 0 on. What the old ring holds are these
 -- codes, so they are copied as they are. Cells, counts and what is remembered stay. Refused by 8 for the record, which has the old ring's length, then by 6
 -- where the codes do not fit, or the other ring has no byte.
-use Rattle.std.specs.Prelude.{◌≡◌, ◌&&◌, List, ℕ, leb, ltb, length}
+use Rattle.std.specs.Prelude.{◌≡◌, ◌&&◌, List, ℕ, leb, ltb, length, Result, Ok, Err}
 use Rattle.refusal.specs.declared.Refusal.{Refusal}
 use Rattle.refusal.specs.declared.Refusal.TheVariants as R
 use Rattle.queue.specs.Ring.{content, stored}
 use Rattle.implicit.specs.declared.state.State.{State}
-use Rattle.implicit.specs.declared.state.MoveAnswer.{MoveAnswer}
-use Rattle.implicit.specs.declared.state.MoveAnswer.TheVariants as M
+use Rattle.implicit.specs.declared.state.Refused.{Refused}
 use Rattle.implicit.specs.Record.{refused_unless, sound_record}
 use Rattle.implicit.specs.Step.{World, world_of}
 
@@ -43,15 +42,15 @@ move_of w ring =
     (refused_unless (not_moved R.Room) (ltb 0 (length ring) && leb w.state.used (length ring)) (moved (moved_world w ring)))
 
 -- the answer of a move, and the other ring afterwards: by a refusal the record as given, and the bytes as they were
-abbrev pub move_answer : State → MoveEnd → MoveAnswer
-move_answer s (not_moved why) = M.Refused why s
-move_answer s (moved left) = M.Done left.state
+abbrev pub move_answer : State → MoveEnd → Result State Refused
+move_answer s (not_moved why) = Err (record { why = why; state = s })
+move_answer s (moved left) = Ok left.state
 
 abbrev pub other_after : List ℕ → MoveEnd → List ℕ
 other_after other (not_moved why) = other
 other_after other (moved left) = left.ring
 
 -- what a call answered, with the other ring afterwards, is what the move's end says, whatever the cells are: the call is not lent them
-abbrev pub MovesAs : State → List ℕ → List ℕ → MoveAnswer → List ℕ → Type 0
+abbrev pub MovesAs : State → List ℕ → List ℕ → Result State Refused → List ℕ → Type 0
 MovesAs s ring other r after =
     (cells : List ℕ) → (r ≡ move_answer s (move_of (world_of s ring cells) other)) × (after ≡ other_after other (move_of (world_of s ring cells) other))

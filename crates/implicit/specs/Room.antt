@@ -5,14 +5,13 @@
 --                                       8 + 8 + 16 u + 1 at most
 --   behind a sibling                    2 + 2 + 2 u + 1 at most where x and y were cut, four siblings; 14 more where a parameter was cut, three siblings:
 --                                       siblings' indices differ in the last digit alone, and they have the same parameters but the one that was cut
-use Rattle.std.specs.Prelude.{◌&&◌, cond, ℕ, ◌+◌, ◌*◌, eqb, length}
+use Rattle.std.specs.Prelude.{◌&&◌, cond, ℕ, ◌+◌, ◌*◌, eqb, length, Result, Ok, Err}
 use Rattle.refusal.specs.declared.Refusal.TheVariants as R
+use Rattle.refusal.specs.declared.Refusal.{Refusal}
 use Rattle.queue.specs.Directions.{used_of, parameters}
 use Rattle.decide.specs.declared.Chosen.{Chosen}
 use Rattle.decide.specs.Damage.{legal_side}
 use Rattle.implicit.specs.declared.state.Ranges.{Ranges}
-use Rattle.implicit.specs.declared.state.NeededAnswer.{NeededAnswer}
-use Rattle.implicit.specs.declared.state.NeededAnswer.TheVariants as N
 use Rattle.implicit.specs.Record.{refused_unless}
 use Rattle.implicit.specs.Setup.{ranges_legal, first_bytes}
 
@@ -29,7 +28,7 @@ unfoldable pub enough_bytes : Chosen → Ranges → ℕ → ℕ
 enough_bytes p r n = length (first_bytes p r) + n * step_growth p.set
 
 -- THE RING THAT IS ENOUGH FOR n STEPS, asked before there are a ring and cells: of a setup's refusals 1 and 3 are left
-unfoldable pub enough_ring : Chosen → Ranges → ℕ → NeededAnswer
+unfoldable pub enough_ring : Chosen → Ranges → ℕ → Result ℕ Refusal
 enough_ring p r n =
-    refused_unless (N.Refused R.Side) (legal_side p.width && legal_side p.height)
-    (refused_unless (N.Refused R.Parameter) (ranges_legal p.set r) (N.Bytes (enough_bytes p r n)))
+    refused_unless (Err R.Side) (legal_side p.width && legal_side p.height)
+    (refused_unless (Err R.Parameter) (ranges_legal p.set r) (Ok (enough_bytes p r n)))

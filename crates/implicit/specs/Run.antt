@@ -1,5 +1,5 @@
 -- Document 01, the paragraph on a run: what it is refused by, its four endings in the order in which they are looked for, and its three sums.
-use Rattle.std.specs.Prelude.{◌≡◌, cond, List, ℕ, zero, suc, ◌+◌, leb, length, drop}
+use Rattle.std.specs.Prelude.{◌≡◌, cond, List, ℕ, zero, suc, ◌+◌, leb, length, drop, Result, Ok, Err}
 use Rattle.refusal.specs.declared.Refusal.{Refusal}
 use Rattle.refusal.specs.declared.Refusal.TheVariants as R
 use Rattle.image.specs.Cell.{is_given_up}
@@ -8,8 +8,8 @@ use Rattle.decide.specs.declared.Chosen.{Chosen}
 use Rattle.implicit.specs.declared.state.State.{State}
 use Rattle.implicit.specs.declared.state.Ending.{Ending}
 use Rattle.implicit.specs.declared.state.Ending.TheVariants as E
-use Rattle.implicit.specs.declared.state.RunAnswer.{RunAnswer}
-use Rattle.implicit.specs.declared.state.RunAnswer.TheVariants as A
+use Rattle.implicit.specs.declared.state.Refused.{Refused}
+use Rattle.implicit.specs.declared.state.Ended.{Ended}
 use Rattle.implicit.specs.Record.{refused_unless, pixel_count, pixel_cells, sound_record, queue_empty}
 use Rattle.implicit.specs.Step.{World, StepEnd, refused, finished, tape_step_of}
 
@@ -62,14 +62,14 @@ run_of budget w tape =
     (refused_unless (not_run R.Cells) (leb (pixel_count w.state.chosen) (length w.cells)) (has_run (run_from budget w tape)))
 
 -- its answer on a record, and the world afterwards
-abbrev pub run_answer : State → RunResult → RunAnswer
-run_answer s (not_run why) = A.Refused why s
-run_answer s (has_run e) = A.Ended e.world.state e.steps e.evaluations e.tape e.ending
+abbrev pub run_answer : State → RunResult → Result Ended Refused
+run_answer s (not_run why) = Err (record { why = why; state = s })
+run_answer s (has_run e) = Ok (record { state = e.world.state; steps = e.steps; evaluations = e.evaluations; tape = e.tape; ending = e.ending })
 
 abbrev pub world_run : World → RunResult → World
 world_run w (not_run why) = w
 world_run w (has_run e) = e.world
 
 -- what a call answered, with the ring and the cells afterwards, is what the run says
-abbrev pub RunsAs : World → RunResult → RunAnswer → List ℕ → List ℕ → Type 0
+abbrev pub RunsAs : World → RunResult → Result Ended Refused → List ℕ → List ℕ → Type 0
 RunsAs w a r ring cells = (r ≡ run_answer w.state a) × (ring ≡ (world_run w a).ring) × (cells ≡ (world_run w a).cells)

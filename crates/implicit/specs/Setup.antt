@@ -1,6 +1,7 @@
 -- Document 01, the setup, with its refusals 1, 2, 3 and 6 in this order.
-use Rattle.std.specs.Prelude.{Bool, cond, ◌&&◌, List, [], ◌∷◌, ◌++◌, map, ℕ, zero, suc, ◌+◌, ◌-◌, ◌^◌, max, leb, length}
+use Rattle.std.specs.Prelude.{Bool, cond, ◌&&◌, List, [], ◌∷◌, ◌++◌, map, ℕ, zero, suc, ◌+◌, ◌-◌, ◌^◌, max, leb, length, Result, Ok, Err}
 use Rattle.refusal.specs.declared.Refusal.TheVariants as R
+use Rattle.refusal.specs.declared.Refusal.{Refusal}
 use Rattle.interval.specs.Cuts.{first_cut}
 use Rattle.image.specs.declared.Op.TheVariants as Op
 use Rattle.image.specs.Range.{whole_picture}
@@ -12,14 +13,8 @@ use Rattle.queue.specs.Directions.{in_use, parameters}
 use Rattle.queue.specs.Block.{is_integer, parameter_of, with_parameter, as_queued_at, starting_last}
 use Rattle.decide.specs.declared.Chosen.{Chosen}
 use Rattle.decide.specs.Damage.{legal_side, legal_set}
-use Rattle.implicit.specs.declared.setting_up.SetupEnd.{SetupEnd}
-use Rattle.implicit.specs.declared.setting_up.SetupEnd.TheVariants as E
-use Rattle.implicit.specs.declared.state.NeededAnswer.{NeededAnswer}
-use Rattle.implicit.specs.declared.state.NeededAnswer.TheVariants as N
 use Rattle.implicit.specs.declared.state.State.{State}
 use Rattle.implicit.specs.declared.state.Ranges.{Ranges}
-use Rattle.implicit.specs.declared.state.SetupAnswer.{SetupAnswer}
-use Rattle.implicit.specs.declared.state.SetupAnswer.TheVariants as S
 use Rattle.queue.specs.Code.{parameters_legal}
 use Rattle.queue.specs.Ring.{stored}
 use Rattle.queue.specs.Queue as Queue
@@ -68,18 +63,18 @@ unfoldable pub first_bytes : Chosen → Ranges → List ℕ
 first_bytes p r = Queue.queue_codes p.set starting_last (first_blocks p r)
 
 -- the first refusal that applies, if any, to a ring of len bytes and count cells
-unfoldable pub setup_refusal : Chosen → Ranges → ℕ → ℕ → SetupEnd
+unfoldable pub setup_refusal : Chosen → Ranges → ℕ → ℕ → Result (Unit {0}) Refusal
 setup_refusal p r len count =
-    refused_unless (E.Rejected R.Side) (legal_side p.width && legal_side p.height)
-    (refused_unless (E.Rejected R.Cells) (leb (pixel_count p) count)
-    (refused_unless (E.Rejected R.Parameter) (ranges_legal p.set r)
-    (refused_unless (E.Rejected R.Room) (leb (length (first_bytes p r)) len) E.Begun)))
+    refused_unless (Err R.Side) (legal_side p.width && legal_side p.height)
+    (refused_unless (Err R.Cells) (leb (pixel_count p) count)
+    (refused_unless (Err R.Parameter) (ranges_legal p.set r)
+    (refused_unless (Err R.Room) (leb (length (first_bytes p r)) len) (Ok tt))))
 
 -- the least ring with which a setup begins, asked before there are a ring and cells: of its refusals 1 and 3 are left
-unfoldable pub least_ring : Chosen → Ranges → NeededAnswer
+unfoldable pub least_ring : Chosen → Ranges → Result ℕ Refusal
 least_ring p r =
-    refused_unless (N.Refused R.Side) (legal_side p.width && legal_side p.height)
-    (refused_unless (N.Refused R.Parameter) (ranges_legal p.set r) (N.Bytes (length (first_bytes p r))))
+    refused_unless (Err R.Side) (legal_side p.width && legal_side p.height)
+    (refused_unless (Err R.Parameter) (ranges_legal p.set r) (Ok (length (first_bytes p r))))
 
 -- the record that an accepted setup leaves
 unfoldable pub start_record : Chosen → Ranges → ℕ → State
@@ -106,15 +101,15 @@ abbrev pub cleared : Chosen → Chosen
 cleared p = record { width = p.width; height = p.height; set = p.set; reserved1 = 0; reserved2 = 0; reserved3 = 0 }
 
 -- THE SETUP: what it answers, and the ring and the cells afterwards, of which a refusal changes nothing
-abbrev pub started_by : SetupEnd → State → SetupAnswer
-started_by E.Begun s = S.Ready s
-started_by (E.Rejected why) s = S.Refused why
+abbrev pub started_by : Result (Unit {0}) Refusal → State → Result State Refusal
+started_by (Ok u) s = Ok s
+started_by (Err why) s = Err why
 
-abbrev pub if_begun : SetupEnd → List ℕ → List ℕ → List ℕ
-if_begun E.Begun after before = after
-if_begun (E.Rejected why) after before = before
+abbrev pub if_begun : Result (Unit {0}) Refusal → List ℕ → List ℕ → List ℕ
+if_begun (Ok u) after before = after
+if_begun (Err why) after before = before
 
-unfoldable pub setup_answer : Chosen → Ranges → ℕ → ℕ → SetupAnswer
+unfoldable pub setup_answer : Chosen → Ranges → ℕ → ℕ → Result State Refusal
 setup_answer p r len count = started_by (setup_refusal p r len count) (start_record p r len)
 
 unfoldable pub ring_begun : Chosen → Ranges → List ℕ → List ℕ → List ℕ

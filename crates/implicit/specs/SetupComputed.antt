@@ -1,10 +1,11 @@
 -- The first blocks one by one, as private functions compute them without a list: how many there are, which is the i-th, and what is remembered and used
 -- once one is queued. The laws say that these are the setup's first blocks.
 -- The pieces of t change fastest, then those of n_theta, then n, then m.
-use Rattle.std.specs.Prelude.{cond, ℕ, ◌+◌, ◌*◌, ◌/◌, ◌%◌, length, get_or}
+use Rattle.std.specs.Prelude.{cond, Result, Ok, ℕ, ◌+◌, ◌*◌, ◌/◌, ◌%◌, length, get_or}
+use Rattle.refusal.specs.declared.Refusal.{Refusal}
 use Rattle.interval.specs.declared.Interval.{Interval}
-use Rattle.interval.specs.declared.PiecesAnswer.{PiecesAnswer}
-use Rattle.interval.specs.declared.PiecesAnswer.TheVariants as C
+use Rattle.interval.specs.declared.Pieces.{Pieces}
+use Rattle.interval.specs.declared.Pieces.TheVariants as C
 use Rattle.interval.specs.Bounds.{legal_interval, put_interval}
 use Rattle.interval.specs.Cuts.{first_cut}
 use Rattle.interval.specs.Answers.{pieces_at, pieces_of}
@@ -23,8 +24,8 @@ use Rattle.implicit.specs.declared.first.Behind.{Behind}
 use Rattle.implicit.specs.Setup.{root_block, first_blocks, first_bytes}
 
 -- the pieces of a parameter's range; the whole line alone where it is not used
-unfoldable pub pieces_kept : ℕ → Direction → Interval → PiecesAnswer
-pieces_kept set d r = cond (in_use set d) (pieces_at (legal_interval r (is_integer d)) (first_cut (put_interval r) (is_integer d))) (C.One whole_line)
+unfoldable pub pieces_kept : ℕ → Direction → Interval → Result Pieces Refusal
+pieces_kept set d r = cond (in_use set d) (pieces_at (legal_interval r (is_integer d)) (first_cut (put_interval r) (is_integer d))) (Ok (C.One whole_line))
 
 -- the whole block, and the pieces of each parameter
 unfoldable pub product_of : Chosen → Ranges → Product
@@ -37,10 +38,10 @@ product_of p r = record {
 }
 
 -- how many pieces, and the j-th
-abbrev pub piece_count : PiecesAnswer → ℕ
+abbrev pub piece_count : Result Pieces Refusal → ℕ
 piece_count c = length (pieces_of c)
 
-abbrev pub piece_at : PiecesAnswer → ℕ → Interval
+abbrev pub piece_at : Result Pieces Refusal → ℕ → Interval
 piece_at c j = get_or (pieces_of c) j whole_line
 
 -- how many blocks
@@ -48,7 +49,7 @@ unfoldable pub product_count : Product → ℕ
 product_count f = piece_count f.m * piece_count f.n * piece_count f.theta * piece_count f.t
 
 -- a parameter's piece chosen by the number that is left, and that number divided by the count of the pieces
-abbrev pub picked_by : Direction → PiecesAnswer → Picked → Picked
+abbrev pub picked_by : Direction → Result Pieces Refusal → Picked → Picked
 picked_by d c k = record { block = with_parameter k.block d (piece_at c (k.left % piece_count c)); left = k.left / piece_count c }
 
 -- the i-th block

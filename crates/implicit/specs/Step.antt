@@ -1,13 +1,13 @@
 -- Document 01, the step, with its refusals in their order: 8 for the record, 2, 13, 8 for the block, 4, 5, 7, 6.
 -- A step is a function of the record, the ring, the cells and the verdicts: this page says what it answers and leaves.
-use Rattle.std.specs.Prelude.{◌≡◌, Bool, true, false, cond, not, ◌&&◌, List, ℕ, ◌+◌, ◌^◌, leb, ltb, eqb, length, take}
+use Rattle.queue.specs.declared.QueueError.{QueueError}
+use Rattle.std.specs.Prelude.{◌≡◌, Bool, true, false, cond, not, ◌&&◌, List, ℕ, ◌+◌, ◌^◌, leb, ltb, eqb, length, take, Result, Ok, Err}
 use Rattle.base.specs.Event.{Event, queued_by}
 use Rattle.refusal.specs.declared.Refusal.{Refusal}
 use Rattle.refusal.specs.declared.Refusal.TheVariants as R
 use Rattle.image.specs.Cell as Cells
 use Rattle.queue.specs.declared.Block.{Block}
 use Rattle.queue.specs.declared.Taken.{Taken}
-use Rattle.queue.specs.declared.Taken.TheVariants as T
 use Rattle.queue.specs.declared.Last.{Last}
 use Rattle.queue.specs.Ring.{stored_behind}
 use Rattle.queue.specs.Queue as Queue
@@ -18,8 +18,8 @@ use Rattle.decide.specs.Children.{children_of}
 use Rattle.decide.specs.Verdict.{all_legal}
 use Rattle.plan.specs.Plan.{outcomes, evaluations, events_for, cells_after}
 use Rattle.implicit.specs.declared.state.State.{State}
-use Rattle.implicit.specs.declared.state.StepAnswer.{StepAnswer}
-use Rattle.implicit.specs.declared.state.StepAnswer.TheVariants as S
+use Rattle.implicit.specs.declared.state.Refused.{Refused}
+use Rattle.implicit.specs.declared.state.Finished.{Finished}
 use Rattle.implicit.specs.Record.{refused_unless, pixel_count, sound_record, put_last}
 use Rattle.implicit.specs.Listing.{front_of}
 
@@ -89,14 +89,13 @@ judged w b last head used own =
     (finished (world_left w b last head used own) (evaluations (outcomes_of w b own)) (length (children_of w.state.chosen b)))))
 
 -- refusals 8 of the block and 4, and then those
-unfoldable pub after_taking : Bool → World → List ℕ → Taken → StepEnd
-after_taking tape w vs T.Damaged = refused R.Damaged
-after_taking tape w vs T.Outside = refused R.Damaged
-after_taking tape w vs (T.Front b last head used) =
-    let children = length (children_of w.state.chosen b) in
-    unless R.Damaged (block_sound w.state.chosen w.cells b)
+unfoldable pub after_taking : Bool → World → List ℕ → Result Taken QueueError → StepEnd
+after_taking tape w vs (Err why) = refused R.Damaged
+after_taking tape w vs (Ok t) =
+    let children = length (children_of w.state.chosen t.block) in
+    unless R.Damaged (block_sound w.state.chosen w.cells t.block)
     (unless R.Verdicts (enough_verdicts tape children (length vs))
-    (judged w b last head used (take children vs)))
+    (judged w t.block t.last t.head t.used (take children vs)))
 
 -- THE STEP: refusals 8 of the record, 2 and 13, and then the block's; on a tape, or a single one
 unfoldable pub step_with : Bool → World → List ℕ → StepEnd
@@ -113,14 +112,14 @@ abbrev pub tape_step_of : World → List ℕ → StepEnd
 tape_step_of = step_with true
 
 -- the answer of a step on a record, and the world afterwards: by a refusal the number, the record as given, and the world as it was
-abbrev pub step_answer : State → StepEnd → StepAnswer
-step_answer s (refused why) = S.Refused why s
-step_answer s (finished left evals bytes) = S.Finished left.state evals bytes
+abbrev pub step_answer : State → StepEnd → Result Finished Refused
+step_answer s (refused why) = Err (record { why = why; state = s })
+step_answer s (finished left evals bytes) = Ok (record { state = left.state; evaluations = evals; verdicts = bytes })
 
 abbrev pub world_after : World → StepEnd → World
 world_after w (refused why) = w
 world_after w (finished left evals bytes) = left
 
 -- what a call answered, with the ring and the cells afterwards, is what the step's end says
-abbrev pub EndsAs : World → StepEnd → StepAnswer → List ℕ → List ℕ → Type 0
+abbrev pub EndsAs : World → StepEnd → Result Finished Refused → List ℕ → List ℕ → Type 0
 EndsAs w e r ring cells = (r ≡ step_answer w.state e) × (ring ≡ (world_after w e).ring) × (cells ≡ (world_after w e).cells)

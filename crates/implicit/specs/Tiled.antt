@@ -1,28 +1,23 @@
 -- Document 02, (iv): setup, step and run that take a table of tile counts beside the picture, and the call that fills one. What they answer is what the
 -- calls without a table answer, but for 17 "just after 2", and "there 8 for the block also speaks of every cell in a touched tile".
-use Rattle.std.specs.Prelude.{◌≡◌, Bool, true, false, cond, ◌&&◌, List, ℕ, zero, suc, leb, ltb, length, drop}
+use Rattle.queue.specs.declared.QueueError.{QueueError}
+use Rattle.std.specs.Prelude.{◌≡◌, Bool, true, false, cond, ◌&&◌, List, ℕ, zero, suc, leb, ltb, length, drop, Result, Ok, Err, not, Option, Some, None}
 use Rattle.refusal.specs.declared.Refusal.TheVariants as R
+use Rattle.refusal.specs.declared.Refusal.{Refusal}
 use Rattle.image.specs.declared.PixelRange.{PixelRange}
-use Rattle.image.specs.declared.Seen.{Seen}
-use Rattle.image.specs.declared.Seen.TheVariants as Sn
 use Rattle.image.specs.Cell.{meanings}
 use Rattle.image.specs.Range.{rectangle_of}
 use Rattle.tiles.specs.Tiles.{table_enough, touched_damaged, recounted_under, recounted}
 use Rattle.queue.specs.declared.Block.{Block}
 use Rattle.queue.specs.declared.Taken.{Taken}
-use Rattle.queue.specs.declared.Taken.TheVariants as T
 use Rattle.decide.specs.declared.Chosen.{Chosen}
 use Rattle.decide.specs.Damage.{legal_side}
-use Rattle.implicit.specs.declared.setting_up.SetupEnd.{SetupEnd}
-use Rattle.implicit.specs.declared.setting_up.SetupEnd.TheVariants as E
 use Rattle.implicit.specs.declared.state.Ending.TheVariants as End
 use Rattle.implicit.specs.declared.state.State.{State}
 use Rattle.implicit.specs.declared.state.Ranges.{Ranges}
-use Rattle.implicit.specs.declared.state.SetupAnswer.{SetupAnswer}
-use Rattle.implicit.specs.declared.state.StepAnswer.{StepAnswer}
-use Rattle.implicit.specs.declared.state.RunAnswer.{RunAnswer}
-use Rattle.implicit.specs.declared.state.CallAnswer.{CallAnswer}
-use Rattle.implicit.specs.declared.state.CallAnswer.TheVariants as D
+use Rattle.implicit.specs.declared.state.Refused.{Refused}
+use Rattle.implicit.specs.declared.state.Finished.{Finished}
+use Rattle.implicit.specs.declared.state.Ended.{Ended}
 use Rattle.implicit.specs.Record.{refused_unless, pixel_count, sound_record, queue_empty}
 use Rattle.implicit.specs.Setup.{ranges_legal, first_bytes, start_record, start_ring, start_cells, started_by, if_begun}
 use Rattle.implicit.specs.Listing.{front_of}
@@ -43,15 +38,15 @@ abbrev pub covered_by : Chosen → Block → PixelRange
 covered_by p b = rectangle_of b.x b.y p.width p.height
 
 -- THE SETUP, with refusals 1, 2, 17, 3 and 6 in this order; it fills the table
-unfoldable pub tiled_setup_refusal : Chosen → Ranges → ℕ → ℕ → ℕ → SetupEnd
+unfoldable pub tiled_setup_refusal : Chosen → Ranges → ℕ → ℕ → ℕ → Result (Unit {0}) Refusal
 tiled_setup_refusal p r len count room =
-    refused_unless (E.Rejected R.Side) (legal_side p.width && legal_side p.height)
-    (refused_unless (E.Rejected R.Cells) (leb (pixel_count p) count)
-    (refused_unless (E.Rejected R.Table) (room_for_tiles p room)
-    (refused_unless (E.Rejected R.Parameter) (ranges_legal p.set r)
-    (refused_unless (E.Rejected R.Room) (leb (length (first_bytes p r)) len) E.Begun))))
+    refused_unless (Err R.Side) (legal_side p.width && legal_side p.height)
+    (refused_unless (Err R.Cells) (leb (pixel_count p) count)
+    (refused_unless (Err R.Table) (room_for_tiles p room)
+    (refused_unless (Err R.Parameter) (ranges_legal p.set r)
+    (refused_unless (Err R.Room) (leb (length (first_bytes p r)) len) (Ok tt)))))
 
-unfoldable pub tiled_setup_answer : Chosen → Ranges → ℕ → ℕ → ℕ → SetupAnswer
+unfoldable pub tiled_setup_answer : Chosen → Ranges → ℕ → ℕ → ℕ → Result State Refusal
 tiled_setup_answer p r len count room = started_by (tiled_setup_refusal p r len count room) (start_record p r len)
 
 -- what the ring, the cells or the table hold afterwards: `after`, where the setup begins, else what they held
@@ -70,20 +65,18 @@ table_begun p r len cells table = if_tiled p r len (length cells) (length table)
 -- THE STEP, with refusals 8 for the record, 2, 17, 13, 8 for the block, 4, 5, 7 and 6 in this order
 
 -- no cell in a tile that the block touches is damaged
-abbrev pub none_seen : Seen → Bool
-none_seen Sn.Yes = false
-none_seen Sn.No = true
-none_seen Sn.Outside = false
+abbrev pub none_seen : Option Bool → Bool
+none_seen (Some b) = not b
+none_seen None = false
 
 abbrev pub touched_sound : Chosen → List ℕ → Block → Bool
 touched_sound p cells b = none_seen (touched_damaged p.width p.height (covered_by p b) cells)
 
 -- the front block's refusals: 8 speaks of these cells too, and all else is as without a table
-unfoldable pub tiled_after_taking : Bool → World → List ℕ → Taken → StepEnd
-tiled_after_taking tape w vs T.Damaged = refused R.Damaged
-tiled_after_taking tape w vs T.Outside = refused R.Damaged
-tiled_after_taking tape w vs (T.Front b last head used) =
-    unless R.Damaged (touched_sound w.state.chosen w.cells b) (after_taking tape w vs (T.Front b last head used))
+unfoldable pub tiled_after_taking : Bool → World → List ℕ → Result Taken QueueError → StepEnd
+tiled_after_taking tape w vs (Err why) = refused R.Damaged
+tiled_after_taking tape w vs (Ok t) =
+    unless R.Damaged (touched_sound w.state.chosen w.cells t.block) (after_taking tape w vs (Ok t))
 
 -- for a table of `room` numbers
 unfoldable pub tiled_step_with : Bool → ℕ → World → List ℕ → StepEnd
@@ -101,12 +94,11 @@ abbrev pub tiled_tape_step_of : ℕ → World → List ℕ → StepEnd
 tiled_tape_step_of = tiled_step_with true
 
 -- the table once a block was taken: the tiles that it touches recounted, by what the step left
-abbrev pub table_taking : Taken → World → List ℕ → List ℕ
-table_taking (T.Front b last head used) left table =
-    recounted_under left.state.chosen.width left.state.chosen.height (covered_by left.state.chosen b) left.state.taken
+abbrev pub table_taking : Result Taken QueueError → World → List ℕ → List ℕ
+table_taking (Ok t) left table =
+    recounted_under left.state.chosen.width left.state.chosen.height (covered_by left.state.chosen t.block) left.state.taken
     (meanings left.cells) table
-table_taking T.Damaged left table = table
-table_taking T.Outside left table = table
+table_taking (Err why) left table = table
 
 -- the table after a step: by a refusal as it was
 unfoldable pub table_after : World → List ℕ → StepEnd → List ℕ
@@ -114,7 +106,7 @@ table_after w table (refused why) = table
 table_after w table (finished left evals bytes) = table_taking (front_of w.state w.ring) left table
 
 -- what a call answered, with the ring, the cells and the table afterwards, is what the step's end says
-abbrev pub TiledEndsAs : World → List ℕ → StepEnd → StepAnswer → List ℕ → List ℕ → List ℕ → Type 0
+abbrev pub TiledEndsAs : World → List ℕ → StepEnd → Result Finished Refused → List ℕ → List ℕ → List ℕ → Type 0
 TiledEndsAs w table e r ring cells left = EndsAs w e r ring cells × (left ≡ table_after w table e)
 
 -- THE RUN: document 01's, of steps with a table. It is itself refused by 8 for the record, 2 and 17
@@ -145,16 +137,16 @@ abbrev pub table_run : ℕ → World → List ℕ → List ℕ → RunResult →
 table_run budget w tape table (not_run why) = table
 table_run budget w tape table (has_run e) = table_run_from budget w tape table
 
-abbrev pub TiledRunsAs : ℕ → World → List ℕ → List ℕ → RunResult → RunAnswer → List ℕ → List ℕ → List ℕ → Type 0
+abbrev pub TiledRunsAs : ℕ → World → List ℕ → List ℕ → RunResult → Result Ended Refused → List ℕ → List ℕ → List ℕ → Type 0
 TiledRunsAs budget w tape table a r ring cells left = RunsAs w a r ring cells × (left ≡ table_run budget w tape table a)
 
 -- A TABLE FILLED from a record and its cells, with refusals 8, 2, 17 and 8 for a cell: every tile recounted
-unfoldable pub fill_answer : State → List ℕ → ℕ → CallAnswer
+unfoldable pub fill_answer : State → List ℕ → ℕ → Result (Unit {0}) Refusal
 fill_answer s cells room =
-    refused_unless (D.Refused R.Damaged) (sound_record s.len s)
-    (refused_unless (D.Refused R.Cells) (leb (pixel_count s.chosen) (length cells))
-    (refused_unless (D.Refused R.Table) (room_for_tiles s.chosen room)
-    (refused_unless (D.Refused R.Damaged) (cells_sound s cells) D.Done)))
+    refused_unless (Err R.Damaged) (sound_record s.len s)
+    (refused_unless (Err R.Cells) (leb (pixel_count s.chosen) (length cells))
+    (refused_unless (Err R.Table) (room_for_tiles s.chosen room)
+    (refused_unless (Err R.Damaged) (cells_sound s cells) (Ok tt))))
 
 abbrev pub table_filled : State → List ℕ → List ℕ → List ℕ
 table_filled s cells table = table_of s.chosen s.taken cells table

@@ -2,14 +2,13 @@
 ghost use Rattle.std.specs.Prelude.{◌≡◌, ◌^◌, ◌≤◌};
 ghost use Rattle.decide.specs.ChildAt.{child_of};
 ghost use Rattle.decide.specs.Turn.{turned_found};
-ghost use Rattle.implicit.specs.StepComputed.{decision_as, Four, FourIn, painted_at, marked_child, marked_for};
+ghost use Rattle.implicit.specs.StepComputed.{Four, painted_at, marked_child, marked_for};
 ghost use Rattle.implicit.specs.StepComputed.{carrying_of, with_carried, carried_child, carried_for, committed};
-ghost use Rattle.implicit.specs.StepComputed.{committed_of};
 
-use crate::deciding::{Check, Choice, Decided};
+use crate::deciding::Decided;
 use crate::record::put_last;
 use coordinate::Coordinate;
-use decide::{Chosen, Cut, Found, Outcome, child_of, find_direction, start_of};
+use decide::{Chosen, Cut, Outcome, child_of, find_direction, start_of};
 use image::Op;
 use plan::{is_incomplete, is_marking};
 use queue::{Appended, Block, Last};
@@ -22,40 +21,16 @@ pub(crate) struct Behind {
     pub back: Last,
 }
 
-// What a child leaves: a queued one is remembered, and so many bytes are used.
+// What a queued child leaves: it is remembered, and so many bytes are used.
 #[derive(Clone, Copy)]
-enum Carried {
-    Queued { last: Last, used: usize },
-    Nothing,
+struct Carried {
+    last: Last,
+    used: usize,
 }
 
-// Carries the step out: the cells' marks in order, then the children that are queued or find no direction, in order. Cells that name block `from` or a later
-// one name what is queued over them. A refused step is not handed in.
+// Carries the step out: the cells' marks in order, then the children that are queued or find no direction, in order, since giving up is to outlast the marks.
+// Cells that name block `from` or a later one name what is queued over them.
 pub(crate) fn commit(
-    p: Chosen,
-    from: u64,
-    queued: u64,
-    back: Last,
-    ring: &mut [u8],
-    cells: &mut [u64],
-    d: Choice,
-) -> Behind
-    requires { (queued ≤ 2 ^ 32) × FourIn (decision_as d) }
-    ensures { carrying_of result ring.new cells.new ≡ committed_of p from queued back ring.old cells.old (decision_as d) }
-{
-    let check = d.check;
-    match check {
-        Check::Passed => carry_out(p, from, queued, back, ring, cells, d.decided),
-        Check::Refused(_) => Behind {
-            queued,
-            used: 0,
-            back,
-        },
-    }
-}
-
-// The marks first, since giving up is to outlast them.
-fn carry_out(
     p: Chosen,
     from: u64,
     queued: u64,
@@ -79,9 +54,7 @@ fn mark_children(p: Chosen, cells: &mut [u64], g: Decided)
     let k = g.cut;
     let j = g.judged;
     for i in 0..k.count {
-        let e = j.at[i];
-        let o = e.outcome;
-        mark_child(p, cells, b, k, i, o);
+        mark_child(p, cells, b, k, i, j.at[i]);
     }
 }
 
@@ -127,8 +100,7 @@ fn carry_children(
         back: put_last(back),
     };
     for i in 0..k.count {
-        let e = j.at[i];
-        let o = e.outcome;
+        let o = j.at[i];
         match carry_child(
             p,
             from,
@@ -144,17 +116,19 @@ fn carry_children(
             i,
             o,
         ) {
-            Carried::Queued { last, used } => {
+            Some(c) => {
                 next.queued = next.queued + 1;
-                next.used = used;
-                next.back = last;
+                next.used = c.used;
+                next.back = c.last;
             }
-            Carried::Nothing => {}
+            None => {}
         }
     }
     next
 }
 
+// What goes on from child to child (`to`, `used`, `back`) and what is the same for all go one by one: a struct of either would be made and taken apart
+// once a child, and the contract would name its parts all the same.
 // An incomplete child is queued under the next number, or, if it finds no direction, all cells of its parent are given up, True ones too.
 fn carry_child(
     p: Chosen,
@@ -170,29 +144,27 @@ fn carry_child(
     k: Cut,
     i: usize,
     o: Outcome,
-) -> Carried
+) -> Option<Carried>
     ensures { with_carried to used back result ring.new cells.new ≡ carried_child p from (turned_found p start) head b to used back ring.old cells.old (child_of k b i) o }
 {
     if !is_incomplete(o) {
-        return Carried::Nothing;
+        return None;
     }
     let mut c = child_of(k, b, i);
     match find_direction(p, c, start) {
-        Found::At(dir) => {
+        Some(dir) => {
             c.dir = dir;
             match queue::append(ring, head, used, p.set, back, c) {
-                Appended::Done { last, used: more } => {
+                Ok(Appended { last, used: more }) => {
                     paint_at(p, cells, c.x, c.y, Op::Name { from, to });
-                    Carried::Queued { last, used: more }
+                    Some(Carried { last, used: more })
                 }
-                Appended::NoRoom => Carried::Nothing,
-                Appended::NotCodable => Carried::Nothing,
-                Appended::Outside => Carried::Nothing,
+                Err(_) => None,
             }
         }
-        Found::Nothing => {
+        None => {
             paint_at(p, cells, b.x, b.y, Op::GiveUp);
-            Carried::Nothing
+            None
         }
     }
 }

@@ -6,15 +6,12 @@ ghost use Rattle.decide.specs.Damage.{legal_chosen};
 ghost use Rattle.plan.specs.AtOnce.{judged_of};
 ghost use Rattle.implicit.specs.Record.{pixel_count};
 ghost use Rattle.implicit.specs.Step.{block_sound, enough_verdicts};
-ghost use Rattle.implicit.specs.DecisionComputed.{Refused};
-ghost use Rattle.implicit.specs.StepComputed.{block_check, decision_as, decision_judged, decision_on, decision_of};
+ghost use Rattle.implicit.specs.StepComputed.{block_check, decision_judged, decision_on, decision_of};
 
-use crate::listing::no_block;
 use crate::record::pixel_count;
-use decide::{Chosen, Cut, Outcome, cut_of, has_damaged_cell};
-use image::Seen;
-use plan::{Judged, Noted, judge_children};
-use queue::{Block, DirectionAt, Last, Peeked};
+use decide::{Chosen, Cut, cut_of, has_damaged_cell};
+use plan::{Judged, judge_children};
+use queue::{Block, Last, Peeked};
 use refusal::Refusal;
 
 // What a step is carried out with: the front block, the head and the use once it is taken, how it is cut, and the outcomes of its children.
@@ -25,20 +22,6 @@ pub(crate) struct Decided {
     pub used: usize,
     pub cut: Cut,
     pub judged: Judged,
-}
-
-// How a check went.
-#[derive(Clone, Copy)]
-pub(crate) enum Check {
-    Passed,
-    Refused(Refusal),
-}
-
-// That, or why the step is refused: then what is decided has no meaning. A struct, since an enum holds no array.
-#[derive(Clone, Copy)]
-pub(crate) struct Choice {
-    pub check: Check,
-    pub decided: Decided,
 }
 
 // What the step is carried out with, by a record that is sound or not and has a block left or not.
@@ -53,27 +36,24 @@ pub(crate) fn decide(
     cells: &[u64],
     verdicts: &[u8],
     tape: bool,
-) -> Choice
+) -> Result<Decided, Refusal>
     requires { sound ≡ true → legal_chosen p ≡ true }
-    ensures { decision_as result ≡ decision_of p sound left (taken ring.now head used p.set front) cells.now tape verdicts.now }
+    ensures { result ≡ decision_of p sound left (taken ring.now head used p.set front) cells.now tape verdicts.now }
 {
     if !sound {
-        return refuse(Refusal::Damaged);
+        return Err(Refusal::Damaged);
     }
     if cells.len() < pixel_count(p) {
-        return refuse(Refusal::Cells);
+        return Err(Refusal::Cells);
     }
     if !left {
-        return refuse(Refusal::Empty);
+        return Err(Refusal::Empty);
     }
     match queue::peek(ring, head, used, p.set, front) {
-        Peeked::Front {
-            block,
-            head: next,
-            used: rest,
-        } => decide_block(p, cells, verdicts, tape, block, next, rest),
-        Peeked::Damaged => refuse(Refusal::Damaged),
-        Peeked::Outside => refuse(Refusal::Damaged),
+        Ok(Peeked { block, head, used }) => {
+            decide_block(p, cells, verdicts, tape, block, head, used)
+        }
+        Err(_) => Err(Refusal::Damaged),
     }
 }
 
@@ -86,16 +66,14 @@ fn decide_block(
     b: Block,
     head: usize,
     used: usize,
-) -> Choice
+) -> Result<Decided, Refusal>
     requires { (leb (pixel_count p) (length cells.now) ≡ true) × (legal_chosen p ≡ true) }
-    ensures { decision_as result ≡ decision_on p cells.now tape verdicts.now b head used }
+    ensures { result ≡ decision_on p cells.now tape verdicts.now b head used }
 {
     let k = cut_of(p, b);
     let count = k.count;
-    match check_block(p, b, cells, count, verdicts.len(), tape) {
-        Check::Refused(why) => refuse(why),
-        Check::Passed => judge(p, cells, &verdicts[0..count], b, head, used, k),
-    }
+    check_block(p, b, cells, count, verdicts.len(), tape)?;
+    judge(p, cells, &verdicts[0..count], b, head, used, k)
 }
 
 // The block's own refusals, by the number of its children.
@@ -106,17 +84,17 @@ fn check_block(
     children: usize,
     verdicts: usize,
     tape: bool,
-) -> Check
+) -> Result<(), Refusal>
     requires { (leb (pixel_count p) (length cells.now) ≡ true) × (legal_chosen p ≡ true) × (children ≡ length (children_of p b)) }
     ensures { result ≡ block_check p b cells.now children verdicts tape }
 {
     if !is_sound_block(p, b, cells, children) {
-        return Check::Refused(Refusal::Damaged);
+        return Err(Refusal::Damaged);
     }
     if !has_enough(tape, children, verdicts) {
-        return Check::Refused(Refusal::Verdicts);
+        return Err(Refusal::Verdicts);
     }
-    Check::Passed
+    Ok(())
 }
 
 // Whether neither the block nor a cell that it covers is damaged: a damaged block, and no other, has no child.
@@ -124,11 +102,7 @@ fn is_sound_block(p: Chosen, b: Block, cells: &[u64], children: usize) -> bool
     requires { (leb (pixel_count p) (length cells.now) ≡ true) × (legal_chosen p ≡ true) × (children ≡ length (children_of p b)) }
     ensures { result ≡ block_sound p cells.now b }
 {
-    match has_damaged_cell(p, b, cells) {
-        Seen::Yes => false,
-        Seen::No => 0 < children,
-        Seen::Outside => false,
-    }
+    !has_damaged_cell(p, b, cells).unwrap_or(true) & (0 < children)
 }
 
 fn has_enough(tape: bool, children: usize, verdicts: usize) -> bool
@@ -150,54 +124,18 @@ fn judge(
     head: usize,
     used: usize,
     k: Cut,
-) -> Choice
-    ensures { decision_as result ≡ decision_judged b head used k (judged_of p b k verdicts.now cells.now) }
+) -> Result<Decided, Refusal>
+    ensures { result ≡ decision_judged b head used k (judged_of p b k verdicts.now cells.now) }
 {
     let j = judge_children(p, b, k, verdicts, cells);
     if !j.legal {
-        return refuse(Refusal::Verdict);
+        return Err(Refusal::Verdict);
     }
-    let g = Decided {
+    Ok(Decided {
         block: b,
         head,
         used,
         cut: k,
         judged: j,
-    };
-    Choice {
-        check: Check::Passed,
-        decided: g,
-    }
-}
-
-// A refused step, with nothing decided.
-fn refuse(why: Refusal) -> Choice
-    ensures { decision_as result ≡ Refused why }
-{
-    let e = Noted {
-        outcome: Outcome::Skipped,
-    };
-    let k = Cut {
-        along: DirectionAt::Beyond,
-        right: false,
-        count: 0,
-    };
-    let j = Judged {
-        at: [e, e, e, e],
-        incomplete: 0,
-        evaluations: 0,
-        marked: false,
-        legal: false,
-    };
-    let g = Decided {
-        block: no_block(),
-        head: 0,
-        used: 0,
-        cut: k,
-        judged: j,
-    };
-    Choice {
-        check: Check::Refused(why),
-        decided: g,
-    }
+    })
 }

@@ -1,7 +1,7 @@
 // The first blocks of a setup: the product of the pieces that each used parameter is first cut into, measured or queued one by one.
 // Document 01, "Setup"; from the Rust's `Implicit::new`.
-ghost use Rattle.std.specs.Prelude.{◌≡◌, true, ◌+◌, ◌*◌, ◌<◌, ◌≤◌, max, length};
-ghost use Rattle.queue.specs.Block.{as_queued};
+ghost use Rattle.std.specs.Prelude.{◌≡◌, true, ◌+◌, ◌*◌, ◌<◌, ◌≤◌, length};
+ghost use Rattle.queue.specs.Block.{as_queued, whole_line};
 ghost use Rattle.queue.specs.Code.{encode};
 ghost use Rattle.queue.specs.Queue.{codable};
 ghost use Rattle.queue.specs.Ring.{fits_ring, stored_behind};
@@ -11,20 +11,21 @@ ghost use Rattle.implicit.specs.SetupComputed.{pieces_kept, product_of, piece_co
 use crate::state::Ranges;
 use coordinate::{Coordinate, PIXEL_RANK};
 use decide::Chosen;
-use interval::{Interval, PiecesAnswer};
+use interval::{Interval, Pieces};
 use queue::{
-    Appended, Block, Direction, Last, Measured, as_queued, is_integer, is_used, starting_last,
-    whole_line, with_parameter,
+    Block, Direction, Last, as_queued, is_integer, is_used, starting_last, whole_line,
+    with_parameter,
 };
+use refusal::Refusal;
 
 // The first blocks before they are listed: the whole block, and the pieces that each parameter is cut into.
 #[derive(Clone, Copy)]
 pub(crate) struct Product {
     root: Block,
-    m: PiecesAnswer,
-    n: PiecesAnswer,
-    theta: PiecesAnswer,
-    t: PiecesAnswer,
+    m: Result<Pieces, Refusal>,
+    n: Result<Pieces, Refusal>,
+    theta: Result<Pieces, Refusal>,
+    t: Result<Pieces, Refusal>,
 }
 
 // A first block of which some pieces are picked, and the number that picks the others.
@@ -34,26 +35,20 @@ struct Picked {
     left: usize,
 }
 
-// What is remembered of the last block queued, and the bytes used.
+// What is remembered of the last block queued, and the bytes used. Not what `commit` hands on: no number goes along here, the first blocks are counted before.
 #[derive(Clone, Copy)]
 pub(crate) struct Behind {
     pub(crate) back: Last,
     pub(crate) used: usize,
 }
 
-// The larger of two sides.
-fn larger(a: u32, b: u32) -> u32
-    ensures { result ≡ max a b }
-{
-    if a <= b { b } else { a }
-}
-
-// The level of the first blocks.
+// The level of the first blocks: the definition's own search. By the leading zeros of the side less one it would take a guard for a side of 0 and a bound
+// of 15, which the loop has in its range.
 fn start_level(p: Chosen) -> u8
     ensures value { result ≡ start_level p }
     ensures upper_bound { result ≤ 15 }
 {
-    let side = larger(p.width, p.height);
+    let side = p.width.max(p.height);
     for k in 0..15u8 {
         if side <= 1u32 << k {
             return k;
@@ -89,13 +84,13 @@ fn root_block(p: Chosen, ranges: Ranges) -> Block
 }
 
 // The pieces of a parameter's range.
-fn pieces_of(set: u8, d: Direction, range: Interval) -> PiecesAnswer
+fn pieces_of(set: u8, d: Direction, range: Interval) -> Result<Pieces, Refusal>
     ensures { result ≡ pieces_kept set d range }
 {
     if is_used(set, d) {
         interval::first_cut(range, is_integer(d))
     } else {
-        PiecesAnswer::One(whole_line())
+        Ok(Pieces::One(whole_line()))
     }
 }
 
@@ -118,35 +113,23 @@ pub(crate) fn product_of(p: Chosen, ranges: Ranges) -> Product
 }
 
 // How many pieces a cut gave.
-fn piece_count(c: PiecesAnswer) -> usize
+fn piece_count(c: Result<Pieces, Refusal>) -> usize
     ensures value { result ≡ piece_count c }
     ensures upper_bound { result ≤ 3 }
 {
     match c {
-        PiecesAnswer::One(_) => 1,
-        PiecesAnswer::Two(_, _) => 2,
-        PiecesAnswer::Three(_, _, _) => 3,
-        PiecesAnswer::Refused(_) => 0,
+        Ok(pieces) => pieces.count(),
+        Err(_) => 0,
     }
 }
 
-// One of them, by its place.
-fn piece_at(c: PiecesAnswer, j: usize) -> Interval
-    requires { j < piece_count c }
+// One of them, by its place; where there is none, the whole line.
+fn piece_at(c: Result<Pieces, Refusal>, j: usize) -> Interval
     ensures { result ≡ piece_at c j }
 {
     match c {
-        PiecesAnswer::One(p) => p,
-        PiecesAnswer::Two(p, q) => match j {
-            0 => p,
-            _ => q,
-        },
-        PiecesAnswer::Three(p, q, r) => match j {
-            0 => p,
-            1 => q,
-            _ => r,
-        },
-        PiecesAnswer::Refused(_) => whole_line(),
+        Ok(pieces) => pieces.get(j).unwrap_or(whole_line()),
+        Err(_) => whole_line(),
     }
 }
 
@@ -163,7 +146,7 @@ pub(crate) fn product_count(f: Product) -> usize
 }
 
 // A parameter's piece picked by the number that is left, which it divides.
-fn pick(k: Picked, d: Direction, c: PiecesAnswer) -> Picked
+fn pick(k: Picked, d: Direction, c: Result<Pieces, Refusal>) -> Picked
     requires { 0 < piece_count c }
     ensures { result ≡ picked_by d c k }
 {
@@ -199,11 +182,11 @@ fn measure_behind(set: u8, k: Behind, b: Block) -> Behind
     ensures { result ≡ behind_with set k b }
 {
     match queue::measure(set, k.back, b) {
-        Measured::Bytes { count, last } => Behind {
-            back: last,
-            used: k.used + count,
+        Ok(measured) => Behind {
+            back: measured.last,
+            used: k.used + measured.count,
         },
-        Measured::NotCodable => k,
+        Err(_) => k,
     }
 }
 
@@ -231,10 +214,11 @@ fn queue_behind(ring: &mut [u8], set: u8, k: Behind, b: Block) -> Behind
     ensures { (result ≡ behind_with set k b) × (ring.new ≡ stored_behind ring.old 0 k.used (encode set k.back b)) }
 {
     match queue::append(ring, 0, k.used, set, k.back, b) {
-        Appended::Done { last, used } => Behind { back: last, used },
-        Appended::NoRoom => k,
-        Appended::NotCodable => k,
-        Appended::Outside => k,
+        Ok(done) => Behind {
+            back: done.last,
+            used: done.used,
+        },
+        Err(_) => k,
     }
 }
 

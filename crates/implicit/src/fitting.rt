@@ -3,12 +3,12 @@ ghost use Rattle.std.specs.Prelude.{◌≡◌, ◌+◌, ◌^◌, ◌≤◌};
 ghost use Rattle.queue.specs.Queue.{measured};
 ghost use Rattle.decide.specs.ChildAt.{child_of};
 ghost use Rattle.decide.specs.Turn.{turned_to, turned_found};
-ghost use Rattle.implicit.specs.StepComputed.{decision_as, RoomAsked, Four, with_code, sized_turn, sized_child};
-ghost use Rattle.implicit.specs.StepComputed.{size_of, size_check, room_check_of, room_check};
+ghost use Rattle.implicit.specs.StepComputed.{Four, with_code, sized_turn, sized_child};
+ghost use Rattle.implicit.specs.StepComputed.{size_of, size_check, room_check};
 
-use crate::deciding::{Check, Choice, Decided};
+use crate::deciding::Decided;
 use crate::record::put_last;
-use decide::{Chosen, Cut, Found, Outcome, child_of, find_direction, start_of};
+use decide::{Chosen, Cut, Outcome, child_of, find_direction, start_of};
 use plan::is_incomplete;
 use queue::{Block, FOUR_CODES, Last, Measured};
 use refusal::Refusal;
@@ -22,41 +22,36 @@ struct Size {
 }
 
 // The numbers of the new blocks, and the room for them behind the bytes used.
-pub(crate) fn check_room(p: Chosen, queued: u64, back: Last, len: usize, d: Choice) -> Check
-    requires { RoomAsked queued len (decision_as d) }
-    ensures { result ≡ room_check_of p queued back len (decision_as d) }
-{
-    let check = d.check;
-    match check {
-        Check::Passed => check_decided(p, queued, back, len, d.decided),
-        Check::Refused(why) => Check::Refused(why),
-    }
-}
-
 // A code has at most 83 bytes: with room for four of that length, and numbers for four, nothing is measured.
-fn check_decided(p: Chosen, queued: u64, back: Last, len: usize, g: Decided) -> Check
+pub(crate) fn check_room(
+    p: Chosen,
+    queued: u64,
+    back: Last,
+    len: usize,
+    g: Decided,
+) -> Result<(), Refusal>
     requires { (queued ≤ 2 ^ 32) × (g.used ≤ len) × Four g }
     ensures { result ≡ room_check p queued back len g }
 {
     let room = len - g.used;
     if (FOUR_CODES <= room) & (queued <= 4294967292) {
-        return Check::Passed;
+        return Ok(());
     }
     check_size(queued, room, size_of(p, put_last(back), g))
 }
 
 // By what was measured.
-fn check_size(queued: u64, room: usize, z: Size) -> Check
+fn check_size(queued: u64, room: usize, z: Size) -> Result<(), Refusal>
     requires { (queued ≤ 2 ^ 32) × (z.queued ≤ 4) }
     ensures { result ≡ size_check queued room z }
 {
     if 4294967296 < queued + z.queued {
-        return Check::Refused(Refusal::Numbers);
+        return Err(Refusal::Numbers);
     }
     if room < z.total {
-        return Check::Refused(Refusal::Room);
+        return Err(Refusal::Room);
     }
-    Check::Passed
+    Ok(())
 }
 
 // How many children are queued, and their bytes, each coded against the one before.
@@ -74,9 +69,7 @@ fn size_of(p: Chosen, back: Last, g: Decided) -> Size
         last: back,
     };
     for i in 0..k.count {
-        let e = j.at[i];
-        let o = e.outcome;
-        z = add_child(p, start, z, b, k, i, o);
+        z = add_child(p, start, z, b, k, i, j.at[i]);
     }
     z
 }
@@ -98,8 +91,8 @@ fn add_turned(p: Chosen, start: u16, z: Size, c: Block) -> Size
     ensures { (result ≡ sized_turn p.set z (turned_found p start c)) × (result.total ≤ z.total + 83) × (result.queued ≤ z.queued + 1) }
 {
     match find_direction(p, c, start) {
-        Found::At(dir) => add_code(p.set, z, turn_to(c, dir)),
-        Found::Nothing => z,
+        Some(dir) => add_code(p.set, z, turn_to(c, dir)),
+        None => z,
     }
 }
 
@@ -118,11 +111,11 @@ fn add_code(set: u8, z: Size, b: Block) -> Size
     ensures { (result ≡ with_code z (measured set z.last b)) × (result.total ≤ z.total + 83) × (result.queued ≤ z.queued + 1) }
 {
     match queue::measure(set, z.last, b) {
-        Measured::Bytes { count, last } => Size {
+        Ok(Measured { count, last }) => Size {
             queued: z.queued + 1,
             total: z.total + count,
             last,
         },
-        Measured::NotCodable => z,
+        Err(_) => z,
     }
 }

@@ -21,10 +21,7 @@ pub use listing::children;
 pub use room::{enough_ring, move_queue};
 pub use running::run;
 pub use setting_up::{least_ring, setup};
-pub use state::{
-    CallAnswer, ChildrenAnswer, CountsAnswer, Ending, MoveAnswer, NeededAnswer, Ranges, RunAnswer,
-    SetupAnswer, State, StepAnswer, Tally,
-};
+pub use state::{Ended, Ending, Finished, Ranges, Refused, State, Tally};
 pub use stepping::{step, tape_step};
 pub use tiled::{fill_table, setup_with_table, step_with_table};
 pub use tiled_running::run_with_table;

@@ -52,7 +52,8 @@ fn is_sound_last(l: Last) -> bool
         & is_legal_kept(l.t, false)
 }
 
-// Whether a remembered interval is legal; that of a parameter that is not in use, the whole line, is seen at once.
+// Whether a remembered interval is legal; that of a parameter that is not in use, the whole line, is seen at once. The same lines stand in `decide`'s
+// damage.rt: shared, they would be a public function that promises no more than `interval::is_legal` beside it.
 fn is_legal_kept(x: Interval, integer: bool) -> bool
     ensures { result ≡ legal_interval x integer }
 {

@@ -5,21 +5,17 @@ ghost use Rattle.implicit.specs.Move.{moved_record, MovesAs};
 
 use crate::record::is_sound;
 use crate::setting_up::least_ring;
-use crate::state::{MoveAnswer, NeededAnswer, Ranges, State};
+use crate::state::{Ranges, Refused, State};
 use decide::Chosen;
-use queue::{Copied, parameter_count};
+use queue::parameter_count;
 use refusal::Refusal;
 
 // A ring with which none of the first `steps` steps from the setup is refused for room, whatever the verdicts.
-pub fn enough_ring(chosen: Chosen, ranges: Ranges, steps: u32) -> NeededAnswer
+pub fn enough_ring(chosen: Chosen, ranges: Ranges, steps: u32) -> Result<usize, Refusal>
     ensures { result ≡ enough_ring chosen ranges steps }
 {
-    match least_ring(chosen, ranges) {
-        NeededAnswer::Bytes(first) => {
-            NeededAnswer::Bytes(first + steps as usize * step_growth(chosen.set))
-        }
-        NeededAnswer::Refused(why) => NeededAnswer::Refused(why),
-    }
+    let first = least_ring(chosen, ranges)?;
+    Ok(first + steps as usize * step_growth(chosen.set))
 }
 
 // What a step adds to the bytes used, at most.
@@ -35,26 +31,22 @@ fn step_growth(set: u8) -> usize
 }
 
 // Moves the queue to another ring, longer or shorter: its bytes are copied from byte 0 on. The answer's record goes with the other ring; the old one stays.
-pub fn move_queue(s: State, ring: &[u8], other: &mut [u8]) -> MoveAnswer
+pub fn move_queue(s: State, ring: &[u8], other: &mut [u8]) -> Result<State, Refused>
     ensures { MovesAs s ring.now other.old result other.new }
 {
     if !is_sound(ring.len(), s) {
-        return MoveAnswer::Refused {
+        return Err(Refused {
             why: Refusal::Damaged,
             state: s,
-        };
+        });
     }
     let len = other.len();
     match queue::copy(ring, s.head, s.used, other) {
-        Copied::Done => MoveAnswer::Done(move_record(s, len)),
-        Copied::NoRoom => MoveAnswer::Refused {
-            why: Refusal::Room,
+        Ok(()) => Ok(move_record(s, len)),
+        Err(why) => Err(Refused {
+            why: Refusal::from(why),
             state: s,
-        },
-        Copied::Outside => MoveAnswer::Refused {
-            why: Refusal::Damaged,
-            state: s,
-        },
+        }),
     }
 }
 

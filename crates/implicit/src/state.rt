@@ -1,5 +1,5 @@
 // The record of a picture being refined, and what the entries answer.
-use decide::{Children, Chosen};
+use decide::Chosen;
 use interval::Interval;
 use queue::Last;
 use refusal::Refusal;
@@ -30,39 +30,19 @@ pub struct Ranges {
     pub t: Interval,
 }
 
-// A setup's answer.
+// Why a step, a run or a move was refused, with the record as it was given.
 #[derive(Clone, Copy)]
-pub enum SetupAnswer {
-    Ready(State),
-    Refused(Refusal),
+pub struct Refused {
+    pub why: Refusal,
+    pub state: State,
 }
 
-// How many bytes a ring needs, so that a setup begins, or so many steps behind it.
+// A finished step: the record it leaves, its evaluations and the verdict bytes it took.
 #[derive(Clone, Copy)]
-pub enum NeededAnswer {
-    Bytes(usize),
-    Refused(Refusal),
-}
-
-// A move's answer: the record over the other ring; or why not, with the record as it was given.
-#[derive(Clone, Copy)]
-pub enum MoveAnswer {
-    Done(State),
-    Refused { why: Refusal, state: State },
-}
-
-// A step's answer: the record it leaves, its evaluations and the verdict bytes it took; or why not, with the record as it was given.
-#[derive(Clone, Copy)]
-pub enum StepAnswer {
-    Finished {
-        state: State,
-        evaluations: u64,
-        verdicts: usize,
-    },
-    Refused {
-        why: Refusal,
-        state: State,
-    },
+pub struct Finished {
+    pub state: State,
+    pub evaluations: u64,
+    pub verdicts: usize,
 }
 
 // How a run ends.
@@ -78,34 +58,14 @@ pub enum Ending {
     Stop(Refusal),
 }
 
-// A run's answer: the record that its finished steps leave, their number, evaluations and tape bytes, and the ending; or why it did not begin.
+// A run that began: the record that its finished steps leave, their number, evaluations and tape bytes, and the ending.
 #[derive(Clone, Copy)]
-pub enum RunAnswer {
-    Ended {
-        state: State,
-        steps: u64,
-        evaluations: u64,
-        tape: usize,
-        ending: Ending,
-    },
-    Refused {
-        why: Refusal,
-        state: State,
-    },
-}
-
-// Whether a call was done.
-#[derive(Clone, Copy)]
-pub enum CallAnswer {
-    Done,
-    Refused(Refusal),
-}
-
-// The children of the front block, for the evaluator; none where the listing is refused.
-#[derive(Clone, Copy)]
-pub struct ChildrenAnswer {
-    pub answer: CallAnswer,
-    pub children: Children,
+pub struct Ended {
+    pub state: State,
+    pub steps: u64,
+    pub evaluations: u64,
+    pub tape: usize,
+    pub ending: Ending,
 }
 
 // Pixels by reading, given-up cells (these are uncertain too), queued blocks, and the settled pixels in thousandths.
@@ -118,11 +78,4 @@ pub struct Tally {
     pub givenup: u64,
     pub queued: u64,
     pub share: u64,
-}
-
-// The counts' answer.
-#[derive(Clone, Copy)]
-pub enum CountsAnswer {
-    Of(Tally),
-    Refused(Refusal),
 }

@@ -10,24 +10,17 @@ ghost use Rattle.implicit.specs.Step.{world_of};
 ghost use Rattle.implicit.specs.View.{if_done};
 ghost use Rattle.implicit.specs.Tiled.{room_for_tiles, tiled_setup_answer, tiled_ring_begun, tiled_cells_begun, table_begun};
 ghost use Rattle.implicit.specs.Tiled.{tiled_step_of, tiled_step_with, TiledEndsAs, fill_answer, table_filled};
-ghost use Rattle.implicit.specs.TiledComputed.{CleanIf, touch_of, touch_front, touch_block, recounted_by};
+ghost use Rattle.implicit.specs.TiledComputed.{CleanIf, touch_of, touch_front, touch_block};
 
 use crate::record::{is_sound, pixel_count};
-use crate::setting_up::{SetupEnd, begin, refuse};
-use crate::state::{CallAnswer, Ranges, SetupAnswer, State, StepAnswer};
-use crate::stepping::step_by;
+use crate::setting_up::{begin, check_setup, clear};
+use crate::state::{Finished, Ranges, Refused, State};
+use crate::stepping::step_known;
 use crate::view::examine;
 use decide::{Chosen, is_legal_side};
-use image::{PixelRange, Seen};
-use queue::{Block, Peeked};
+use image::PixelRange;
+use queue::Block;
 use refusal::Refusal;
-
-// The pixels that a step's block covers, where no cell in a tile that it touches is damaged; or why the step is refused.
-#[derive(Clone, Copy)]
-enum Touched {
-    At(PixelRange),
-    Refused(Refusal),
-}
 
 // Whether a table of so many numbers has four for each tile.
 pub(crate) fn has_room_for_tiles(p: Chosen, room: usize) -> bool
@@ -43,7 +36,7 @@ pub fn setup_with_table(
     ring: &mut [u8],
     cells: &mut [u64],
     table: &mut [u32],
-) -> SetupAnswer
+) -> Result<State, Refusal>
     ensures value { result ≡ tiled_setup_answer (cleared chosen) ranges (length ring.old) (length cells.old)
         (length table.old) }
     ensures ring_after { ring.new ≡ tiled_ring_begun (cleared chosen) ranges ring.old (length cells.old)
@@ -53,24 +46,13 @@ pub fn setup_with_table(
     ensures table_after { table.new ≡ table_begun (cleared chosen) ranges (length ring.old) cells.old table.old }
 {
     if is_table_short(chosen, cells.len(), table.len()) {
-        return SetupAnswer::Refused(Refusal::Table);
+        return Err(Refusal::Table);
     }
-    let p = Chosen {
-        width: chosen.width,
-        height: chosen.height,
-        set: chosen.set,
-        reserved1: 0,
-        reserved2: 0,
-        reserved3: 0,
-    };
-    match refuse(p, ranges, ring.len(), cells.len()) {
-        SetupEnd::Begun => {
-            let s = begin(p, ranges, ring, cells);
-            recount_all(p, 0, cells, table);
-            SetupAnswer::Ready(s)
-        }
-        SetupEnd::Rejected(why) => SetupAnswer::Refused(why),
-    }
+    let p = clear(chosen);
+    check_setup(p, ranges, ring.len(), cells.len())?;
+    let s = begin(p, ranges, ring, cells);
+    recount_all(p, 0, cells, table);
+    Ok(s)
 }
 
 // Whether 17 applies to a setup: what comes before it, 1 and 2, does not.
@@ -97,7 +79,7 @@ pub fn step_with_table(
     cells: &mut [u64],
     table: &mut [u32],
     verdicts: &[u8],
-) -> StepAnswer
+) -> Result<Finished, Refused>
     ensures { TiledEndsAs (world_of s ring.old cells.old) table.old
         (tiled_step_of (length table.old) (world_of s ring.old cells.old) verdicts.now) result ring.new
         cells.new table.new }
@@ -107,6 +89,7 @@ pub fn step_with_table(
 }
 
 // The same, single or on a tape, of a record that is known to be sound or not. Where no pixel's cell is damaged, `clean`, no tile's is looked at.
+// The step's answer is handed on as it came: taken apart by `?` and made anew, it took 160 bytes of stack more.
 pub(crate) fn step_tiled(
     s: State,
     sound: bool,
@@ -116,113 +99,94 @@ pub(crate) fn step_tiled(
     table: &mut [u32],
     verdicts: &[u8],
     tape: bool,
-) -> StepAnswer
+) -> Result<Finished, Refused>
     requires { (sound ≡ sound_record (length ring.old) s) × CleanIf clean s.chosen cells.old }
     ensures { TiledEndsAs (world_of s ring.old cells.old) table.old
         (tiled_step_with tape (length table.old) (world_of s ring.old cells.old) verdicts.now) result
         ring.new cells.new table.new }
 {
     match touch(s, sound, clean, ring, cells, table.len()) {
-        Touched::At(r) => finish_touched(
-            step_by(s, sound, ring, cells, verdicts, tape),
-            cells,
-            r,
-            table,
-        ),
-        Touched::Refused(why) => StepAnswer::Refused { why, state: s },
+        Ok(r) => {
+            let answer = step_known(s, sound, ring, cells, verdicts, tape);
+            if let Ok(f) = answer {
+                recount_touched(f.state, cells, r, table);
+            }
+            answer
+        }
+        Err(why) => Err(Refused { why, state: s }),
     }
 }
 
-// What a step is about to touch, once it is not refused by 8 for the record, 2, 17, 13 or 8 for the cells.
-fn touch(s: State, sound: bool, clean: bool, ring: &[u8], cells: &[u64], room: usize) -> Touched
+// The pixels that a step's block covers, once it is not refused by 8 for the record, 2, 17, 13 or 8 for the cells.
+fn touch(
+    s: State,
+    sound: bool,
+    clean: bool,
+    ring: &[u8],
+    cells: &[u64],
+    room: usize,
+) -> Result<PixelRange, Refusal>
     requires { (sound ≡ sound_record (length ring.now) s) × CleanIf clean s.chosen cells.now }
     ensures { result ≡ touch_of room (world_of s ring.now cells.now) }
 {
     if !sound {
-        return Touched::Refused(Refusal::Damaged);
+        return Err(Refusal::Damaged);
     }
     if cells.len() < pixel_count(s.chosen) {
-        return Touched::Refused(Refusal::Cells);
+        return Err(Refusal::Cells);
     }
     if !has_room_for_tiles(s.chosen, room) {
-        return Touched::Refused(Refusal::Table);
+        return Err(Refusal::Table);
     }
     touch_front(s, clean, ring, cells)
 }
 
 // The same by the front block alone.
-fn touch_front(s: State, clean: bool, ring: &[u8], cells: &[u64]) -> Touched
+fn touch_front(s: State, clean: bool, ring: &[u8], cells: &[u64]) -> Result<PixelRange, Refusal>
     requires { CleanIf clean s.chosen cells.now }
     ensures { result ≡ touch_front (world_of s ring.now cells.now) }
 {
     if s.queued <= s.taken {
-        return Touched::Refused(Refusal::Empty);
+        return Err(Refusal::Empty);
     }
     let p = s.chosen;
-    match queue::peek(ring, s.head, s.used, p.set, s.front) {
-        Peeked::Front {
-            block,
-            head: _,
-            used: _,
-        } => touch_block(p, clean, block, cells),
-        Peeked::Damaged => Touched::Refused(Refusal::Damaged),
-        Peeked::Outside => Touched::Refused(Refusal::Damaged),
-    }
+    let read = queue::peek(ring, s.head, s.used, p.set, s.front)?;
+    touch_block(p, clean, read.block, cells)
 }
 
-fn touch_block(p: Chosen, clean: bool, b: Block, cells: &[u64]) -> Touched
+fn touch_block(p: Chosen, clean: bool, b: Block, cells: &[u64]) -> Result<PixelRange, Refusal>
     requires { CleanIf clean p cells.now }
     ensures { result ≡ touch_block p cells.now b }
 {
     let r = image::rectangle(b.x, b.y, p.width, p.height);
     if clean {
-        return Touched::At(r);
+        return Ok(r);
     }
-    match tiles::holds_damage(cells, p.width, p.height, r) {
-        Seen::No => Touched::At(r),
-        Seen::Yes => Touched::Refused(Refusal::Damaged),
-        Seen::Outside => Touched::Refused(Refusal::Damaged),
+    if tiles::holds_damage(cells, p.width, p.height, r).unwrap_or(true) {
+        return Err(Refusal::Damaged);
     }
+    Ok(r)
 }
 
-// A finished step's tiles are recounted; its answer stays as it is.
-fn finish_touched(a: StepAnswer, cells: &[u64], r: PixelRange, table: &mut [u32]) -> StepAnswer
-    ensures value { result ≡ a }
-    ensures table_after { table.new ≡ recounted_by a r cells.now table.old }
+// The tiles that a finished step touched, recounted by the record that it leaves.
+fn recount_touched(s: State, cells: &[u64], r: PixelRange, table: &mut [u32])
+    ensures { table.new ≡ table_recounted s.chosen.width s.chosen.height r s.taken cells.now table.old }
 {
-    match a {
-        StepAnswer::Finished {
-            state,
-            evaluations,
-            verdicts,
-        } => {
-            let p = state.chosen;
-            tiles::recount(cells, p.width, p.height, r, state.taken, table);
-            StepAnswer::Finished {
-                state,
-                evaluations,
-                verdicts,
-            }
-        }
-        StepAnswer::Refused { why, state } => StepAnswer::Refused { why, state },
-    }
+    let p = s.chosen;
+    tiles::recount(cells, p.width, p.height, r, s.taken, table);
 }
 
 // Fills a table from a record and its cells: refused by 8, 2, 17, or 8 for a cell, it writes nothing.
-pub fn fill_table(s: State, cells: &[u64], table: &mut [u32]) -> CallAnswer
+pub fn fill_table(s: State, cells: &[u64], table: &mut [u32]) -> Result<(), Refusal>
     ensures value { result ≡ fill_answer s cells.now (length table.old) }
     ensures table_after { table.new ≡ if_done result (table_filled s cells.now table.old) table.old }
 {
     if is_filling_short(s, cells.len(), table.len()) {
-        return CallAnswer::Refused(Refusal::Table);
+        return Err(Refusal::Table);
     }
-    match examine(s, cells, pixel_count(s.chosen)) {
-        CallAnswer::Done => {
-            recount_all(s.chosen, s.taken, cells, table);
-            CallAnswer::Done
-        }
-        CallAnswer::Refused(why) => CallAnswer::Refused(why),
-    }
+    examine(s, cells, pixel_count(s.chosen))?;
+    recount_all(s.chosen, s.taken, cells, table);
+    Ok(())
 }
 
 // Whether 17 applies to filling a table: what comes before it, 8 for the record and 2, does not.

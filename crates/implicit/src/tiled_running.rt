@@ -1,14 +1,16 @@
 // The run with a table of tile counts beside the picture: document 02, (iv). Its steps are the run's own, each with the tiles recounted that it touched.
+// The loop stands beside the plain run's own: called from two places it was no longer compiled into the plain run, which took 5 to 10 % more
+// (docs/DECISIONS.md, D147).
 ghost use Rattle.std.specs.Prelude.{◌≡◌, true, ◌*◌, ◌^◌, ◌≤◌, ◌<◌, leb, length};
 ghost use Rattle.implicit.specs.Record.{pixel_count, sound_record};
 ghost use Rattle.implicit.specs.Step.{world_of};
-ghost use Rattle.implicit.specs.RunComputed.{SoundByUse, OnceGone, Tried, Bounded, RunTo};
+ghost use Rattle.implicit.specs.RunComputed.{going_on, stopped, passed_to, SoundByUse, OnceGone, Tried, Bounded, RunTo};
 ghost use Rattle.implicit.specs.Tiled.{table_after, tiled_run_from, table_run_from, tiled_run_of, TiledRunsAs};
 ghost use Rattle.implicit.specs.TiledComputed.{CleanIf, looked_over, next_tiled, table_once};
 
 use crate::record::{has_sound_use, is_empty, is_sound, pixel_count};
-use crate::running::{Progress, add_step, empty_ending, halt, report};
-use crate::state::{Ending, RunAnswer, State, StepAnswer};
+use crate::running::{Progress, add_step, empty_ending, report};
+use crate::state::{Ended, Ending, Refused, State};
 use crate::tiled::{has_room_for_tiles, step_tiled};
 use crate::view::are_sound_cells;
 use refusal::Refusal;
@@ -21,33 +23,34 @@ pub fn run_with_table(
     table: &mut [u32],
     tape: &[u8],
     budget: u32,
-) -> RunAnswer
+) -> Result<Ended, Refused>
     ensures { TiledRunsAs budget (world_of s ring.old cells.old) tape.now table.old
         (tiled_run_of budget (length table.old) (world_of s ring.old cells.old) tape.now) result
         ring.new cells.new table.new }
 {
     if !is_sound(ring.len(), s) {
-        return RunAnswer::Refused {
+        return Err(Refused {
             why: Refusal::Damaged,
             state: s,
-        };
+        });
     }
     if cells.len() < pixel_count(s.chosen) {
-        return RunAnswer::Refused {
+        return Err(Refused {
             why: Refusal::Cells,
             state: s,
-        };
+        });
     }
     if !has_room_for_tiles(s.chosen, table.len()) {
-        return RunAnswer::Refused {
+        return Err(Refused {
             why: Refusal::Table,
             state: s,
-        };
+        });
     }
-    report(take_tiled_steps(s, ring, cells, table, tape, budget))
+    let (p, ending) = take_tiled_steps(s, ring, cells, table, tape, budget);
+    Ok(report(p, ending))
 }
 
-// All steps of the run.
+// All steps of the run: how far they came, and how they ended.
 fn take_tiled_steps(
     s: State,
     ring: &mut [u8],
@@ -55,10 +58,10 @@ fn take_tiled_steps(
     table: &mut [u32],
     tape: &[u8],
     budget: u32,
-) -> Progress
+) -> (Progress, Ending)
     requires { (leb (pixel_count s.chosen) (length cells.old) ≡ true) × (sound_record (length ring.old) s ≡ true) }
     ensures run_to { RunTo (tiled_run_from (length table.old) budget (world_of s ring.old cells.old)
-        tape.now) result ring.new cells.new }
+        tape.now) (stopped result.0 result.1) ring.new cells.new }
     ensures table_after { table.new ≡ table_run_from budget (world_of s ring.old cells.old) tape.now
         table.old }
 {
@@ -67,17 +70,17 @@ fn take_tiled_steps(
         steps: 0,
         evaluations: 0,
         tape: 0,
-        ending: Ending::More,
-        going: true,
     };
     let clean = is_clean(s, cells, budget);
-    while p.going {
-        p = go_on_tiled(p, clean, ring, cells, table, tape, budget);
+    loop {
+        match go_on_tiled(p, clean, ring, cells, table, tape, budget) {
+            Ok(next) => p = next,
+            Err(ending) => return (p, ending),
+        }
     }
-    p
 }
 
-// The tests of a run in their order, and the next step.
+// The tests of a run in their order, and the next step; or how the run ends here.
 fn go_on_tiled(
     p: Progress,
     clean: bool,
@@ -86,20 +89,21 @@ fn go_on_tiled(
     table: &mut [u32],
     tape: &[u8],
     budget: u32,
-) -> Progress
-    requires { Bounded budget tape.now p × (leb (pixel_count p.state.chosen) (length cells.old) ≡ true) × SoundByUse
+) -> Result<Progress, Ending>
+    requires { Bounded budget tape.now (going_on p) × (leb (pixel_count p.state.chosen) (length cells.old) ≡ true) × SoundByUse
         (length ring.old) p.state × CleanIf clean p.state.chosen cells.old }
-    ensures once_gone { OnceGone budget p (world_of p.state ring.old cells.old)
-        (next_tiled (length table.old) p ring.old cells.old tape.now) result ring.new cells.new }
-    ensures table_after { table.new ≡ table_once budget p (world_of p.state ring.old cells.old)
-        (next_tiled (length table.old) p ring.old cells.old tape.now) table.old }
+    ensures once_gone { OnceGone budget (going_on p) (world_of p.state ring.old cells.old)
+        (next_tiled (length table.old) (going_on p) ring.old cells.old tape.now) (passed_to p result)
+        ring.new cells.new }
+    ensures table_after { table.new ≡ table_once budget (going_on p) (world_of p.state ring.old cells.old)
+        (next_tiled (length table.old) (going_on p) ring.old cells.old tape.now) table.old }
 {
     if is_empty(p.state) {
         let s = p.state;
-        return halt(p, empty_ending(s.chosen, cells));
+        return Err(empty_ending(s.chosen, cells));
     }
     if budget as u64 <= p.steps {
-        return halt(p, Ending::More);
+        return Err(Ending::More);
     }
     go_tiled_step(p, clean, ring, cells, table, tape)
 }
@@ -112,23 +116,20 @@ fn go_tiled_step(
     cells: &mut [u64],
     table: &mut [u32],
     tape: &[u8],
-) -> Progress
+) -> Result<Progress, Ending>
     requires { (p.tape ≤ length tape.now) × (p.steps < 2 ^ 32) × (p.evaluations ≤ 24 * p.steps) × SoundByUse (length ring.old)
         p.state × CleanIf clean p.state.chosen cells.old }
-    ensures tried { Tried p (world_of p.state ring.old cells.old)
-        (next_tiled (length table.old) p ring.old cells.old tape.now) result ring.new cells.new }
+    ensures tried { Tried (going_on p) (world_of p.state ring.old cells.old)
+        (next_tiled (length table.old) (going_on p) ring.old cells.old tape.now) (passed_to p result)
+        ring.new cells.new }
     ensures table_after { table.new ≡ table_after (world_of p.state ring.old cells.old) table.old
-        (next_tiled (length table.old) p ring.old cells.old tape.now) }
+        (next_tiled (length table.old) (going_on p) ring.old cells.old tape.now) }
 {
     let at = p.tape;
     let sound = has_sound_use(p.state);
     match step_tiled(p.state, sound, clean, ring, cells, table, &tape[at..], true) {
-        StepAnswer::Refused { why, state: _ } => halt(p, Ending::Stop(why)),
-        StepAnswer::Finished {
-            state,
-            evaluations,
-            verdicts,
-        } => add_step(p, state, evaluations, verdicts),
+        Ok(f) => Ok(add_step(p, f)),
+        Err(f) => Err(Ending::Stop(f.why)),
     }
 }
 

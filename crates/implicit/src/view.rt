@@ -1,56 +1,50 @@
 // What a record and its cells show: the picture's bytes, and the counts.
 // Document 01, "Numbers of refusal" and "Program and values"; the Rust's `get_image` and `get_statistics`. The record is a copy, so nothing is handed back.
-ghost use Rattle.std.specs.Prelude.{◌≡◌, true, ◌+◌, ◌≤◌, length};
+ghost use Rattle.std.specs.Prelude.{◌≡◌, true, ◌+◌, ◌≤◌, length, Ok};
 ghost use Rattle.implicit.specs.Record.{pixel_count, sound_record};
 ghost use Rattle.implicit.specs.View.{cells_sound, picture_left, picture_answer, if_done, counts_from, counts_of, counts_answer};
 
 use crate::record::{is_sound, pixel_count};
-use crate::state::{CallAnswer, CountsAnswer, State, Tally};
-use image::{CellKind, CellTally, CellTallyAnswer};
+use crate::state::{State, Tally};
+use image::{CellKind, CellTally};
 use refusal::Refusal;
 
 // Writes a byte for each pixel, rows from the top; bytes beyond the pixels stay.
-pub fn picture(s: State, cells: &[u64], out: &mut [u8]) -> CallAnswer
+pub fn picture(s: State, cells: &[u64], out: &mut [u8]) -> Result<(), Refusal>
     ensures value { result ≡ picture_answer s cells.now (length out.old) }
     ensures out_after { out.new ≡ if_done result (picture_left s cells.now out.old) out.old }
 {
-    match examine(s, cells, out.len()) {
-        CallAnswer::Done => {
-            draw(s, cells, out);
-            CallAnswer::Done
-        }
-        CallAnswer::Refused(why) => CallAnswer::Refused(why),
-    }
+    examine(s, cells, out.len())?;
+    draw(s, cells, out);
+    Ok(())
 }
 
 // The pixels by reading, the given-up cells, the queued blocks and the share that is settled.
-pub fn counts(s: State, cells: &[u64]) -> CountsAnswer
+pub fn counts(s: State, cells: &[u64]) -> Result<Tally, Refusal>
     ensures { result ≡ counts_answer s cells.now }
 {
-    match examine(s, cells, pixel_count(s.chosen)) {
-        CallAnswer::Done => count_pixels(s, cells),
-        CallAnswer::Refused(why) => CountsAnswer::Refused(why),
-    }
+    examine(s, cells, pixel_count(s.chosen))?;
+    count_pixels(s, cells)
 }
 
 // Whether so many bytes have room for the picture of a sound record with sound cells, or why not.
-pub(crate) fn examine(s: State, cells: &[u64], room: usize) -> CallAnswer
+pub(crate) fn examine(s: State, cells: &[u64], room: usize) -> Result<(), Refusal>
     ensures { result ≡ picture_answer s cells.now room }
 {
     let pixels = pixel_count(s.chosen);
     if !is_sound(s.len, s) {
-        return CallAnswer::Refused(Refusal::Damaged);
+        return Err(Refusal::Damaged);
     }
     if cells.len() < pixels {
-        return CallAnswer::Refused(Refusal::Cells);
+        return Err(Refusal::Cells);
     }
     if room < pixels {
-        return CallAnswer::Refused(Refusal::Picture);
+        return Err(Refusal::Picture);
     }
     if are_sound_cells(s, cells) {
-        CallAnswer::Done
+        Ok(())
     } else {
-        CallAnswer::Refused(Refusal::Damaged)
+        Err(Refusal::Damaged)
     }
 }
 
@@ -71,15 +65,15 @@ fn draw(s: State, cells: &[u64], out: &mut [u8])
     image::draw(&cells[0..pixels], s.taken, &mut out[0..pixels]);
 }
 
-fn count_pixels(s: State, cells: &[u64]) -> CountsAnswer
+fn count_pixels(s: State, cells: &[u64]) -> Result<Tally, Refusal>
     requires { (sound_record s.len s ≡ true) × (pixel_count s.chosen ≤ length cells.now) }
-    ensures { result ≡ CountsAnswer.Of (counts_of s cells.now) }
+    ensures { result ≡ Ok (counts_of s cells.now) }
 {
     let p = s.chosen;
     let all = image::whole(p.width, p.height);
     match image::count(cells, p.width, p.height, all, s.taken) {
-        CellTallyAnswer::Of(t) => CountsAnswer::Of(with_share(s, t)),
-        CellTallyAnswer::Outside => CountsAnswer::Refused(Refusal::Cells),
+        Some(t) => Ok(with_share(s, t)),
+        None => Err(Refusal::Cells),
     }
 }
 

@@ -1,46 +1,23 @@
 -- The bit patterns of bounds, for whoever stores them: which patterns are a NaN's, that a put legal interval is read back from the
 -- patterns of its bounds (`read_back`), and that no legal lower bound starts with the bytes FF FF (`no_mark`). Assumes nothing.
-use Rattle.std.proofs.Common.{◌≡◌, ℕ, ◌*◌, ◌/◌, ◌%◌, ◌^◌, ◌<◌, ◌≤◌, Bool, true, false, cond, not, ◌&&◌, ◌||◌, T, eqb, ltb, sym, refl, ap, ◌∙◌, subst, arith}
+use Rattle.std.proofs.Common.{◌≡◌, ℕ, ◌/◌, ◌%◌, ◌^◌, ◌<◌, ◌≤◌, Bool, true, false, cond, not, ◌&&◌, ◌||◌, T, ltb, sym, refl, ap, ◌∙◌, subst, arith}
 use mathlib.Core.Bool.{false≢true}
-use lib.Dec.{eqb_refl}
-use lib.Ieee.{Float, nan, inf, fin, binary64, up, down, lt, le, eq, ne, is_nan, nan_bits, to_bits, of_bits, fits}
-use lib.Ieee.Bits.{is_true, of_bits-to_bits, of_bits-fits, to_bits-lt, nan_bits_is, nan_bits_above}
-use lib.Ieee.Compare.{differs_from_itself}
+use lib.Ieee.{Float, nan, inf, fin, binary64, lt, le, is_nan, nan_bits, to_bits, of_bits, fits}
+use lib.Ieee.Bits.{of_bits-to_bits, of_bits-fits, to_bits-lt, nan_bits_is, nan_bits_above}
+use Rattle.std.specs.Prelude.{Ok, Err}
 use Rattle.refusal.specs.declared.Refusal.TheVariants as R
-use Rattle.base.proofs.Test.{≡→T, cond_yes, cond_no, or_neither}
+use Rattle.base.proofs.Test.{≡→T}
 use Rattle.interval.specs.declared.Interval.{Interval}
-use Rattle.interval.specs.declared.BitsAnswer.TheVariants as B
 use Rattle.interval.specs.Bounds.{whole_bound, legal_interval, put_interval, InFormat}
 use Rattle.interval.specs.Answers.{bounds_from, answer_from_bits}
 use Rattle.interval.proofs.Legality.{legal_bounds_lem, put_again, put_legal}
 use Rattle.interval.proofs.ProperPieces.{Proper, put_format}
 use Rattle.interval.proofs.TopBits.{pattern, lower_number}
 
--- ---- the pattern of a value
--- only a NaN differs from itself
-pub nan_test : (x : Float) → ne x x ≡ is_nan x
-unfolding ne eq is_nan
-nan_test nan = refl
-nan_test (inf true) = refl
-nan_test (inf false) = refl
-nan_test (fin true m e) = ap (λ (z : Bool). not (z && true)) (is_true (eqb (m * up e * down e) (m * up e * down e)) (eqb_refl (m * up e * down e)))
-nan_test (fin false m e) = ap (λ (z : Bool). not (z && true)) (is_true (eqb (m * up e * down e) (m * up e * down e)) (eqb_refl (m * up e * down e)))
-
-pub number_test : (x : Float) → ne x x ≡ false → T (not (is_nan x))
-number_test x h = subst (λ (z : Bool). T (not z)) (sym (sym (nan_test x) ∙ h)) tt
-
-pub nan_pattern : (x : Float) → ne x x ≡ true → 0x7ff8_0000_0000_0000 ≡ to_bits binary64 x
-unfolding to_bits
-nan_pattern x h = sym (ap (to_bits binary64) (differs_from_itself x (≡→T h)))
-
 -- ---- the interval of two patterns
-pub read_yes : (a b : ℕ) (integer : Bool) (y : Interval) → legal_interval (bounds_from a b) integer ≡ true → y ≡ put_interval (bounds_from a b) → B.Bounds y ≡ answer_from_bits a b integer
+pub bits_read : (a b : ℕ) (integer : Bool) → legal_interval (bounds_from a b) integer ≡ true → answer_from_bits a b integer ≡ Ok (put_interval (bounds_from a b))
 unfolding answer_from_bits
-read_yes a b integer y h e = ap B.Bounds e ∙ sym (cond_yes (legal_interval (bounds_from a b) integer) (B.Bounds (put_interval (bounds_from a b))) (B.Refused R.Parameter) h)
-
-pub read_no : (a b : ℕ) (integer : Bool) → legal_interval (bounds_from a b) integer ≡ false → B.Refused R.Parameter ≡ answer_from_bits a b integer
-unfolding answer_from_bits
-read_no a b integer h = sym (cond_no (legal_interval (bounds_from a b) integer) (B.Bounds (put_interval (bounds_from a b))) (B.Refused R.Parameter) h)
+bits_read a b integer h = rw h
 
 nan_low : (y : Float) → le nan y ≡ false
 unfolding le
@@ -71,9 +48,6 @@ nan_illegal a b integer h = go (nan_bits binary64 a) (nan_bits binary64 b) (nan_
     go false true p q h = no_order (bounds_from a b) integer (ap (le (of_bits binary64 a)) (is_nan_lem (of_bits binary64 b) (sym q)) ∙ nan_high (of_bits binary64 a))
     go false false p q h = absurd (false≢true h)
 
-pub no_nans : (s t : Bool) → s || t ≡ false → T (not s) × T (not t)
-no_nans s t h = let (p, q) = or_neither s t h in (rw p tt, rw q tt)
-
 -- ---- what the queue keeps
 -- which patterns are a NaN's: those above an infinity's, but for the sign
 pub nan_patterns : (w : ℕ) → nan_bits binary64 w ≡ ltb 0x7ff0_0000_0000_0000 (w % 2 ^ 63)
@@ -87,13 +61,14 @@ pub bits_back : (x : Float) → T (fits binary64 x) → of_bits binary64 (to_bit
 bits_back x f = of_bits-to_bits binary64 x f
 
 -- so a put legal interval is read back from its bounds' patterns
-pub read_back : (x : Interval) (integer : Bool) → InFormat x → legal_interval x integer ≡ true → put_interval x ≡ x → answer_from_bits (to_bits binary64 x.lower) (to_bits binary64 x.upper) integer ≡ B.Bounds x
+pub read_back : (x : Interval) (integer : Bool) → InFormat x → legal_interval x integer ≡ true → put_interval x ≡ x → answer_from_bits (to_bits binary64 x.lower) (to_bits binary64 x.upper) integer ≡ Ok x
 read_back x integer f h p =
     let e : bounds_from (to_bits binary64 x.lower) (to_bits binary64 x.upper) ≡ x = λ i. record { lower = bits_back x.lower f.0 i; upper = bits_back x.upper f.1 i } in
-    sym (read_yes (to_bits binary64 x.lower) (to_bits binary64 x.upper) integer x (ap (λ (z : Interval). legal_interval z integer) e ∙ h) (sym (ap put_interval e ∙ p)))
+    bits_read (to_bits binary64 x.lower) (to_bits binary64 x.upper) integer (ap (λ (z : Interval). legal_interval z integer) e ∙ h)
+    ∙ ap Ok (ap put_interval e ∙ p)
 
 -- what is read is legal, put and of f64s
-pub read_proper : (a b : ℕ) (integer : Bool) (y : Interval) → answer_from_bits a b integer ≡ B.Bounds y → Proper integer y
+pub read_proper : (a b : ℕ) (integer : Bool) (y : Interval) → answer_from_bits a b integer ≡ Ok y → Proper integer y
 unfolding answer_from_bits
 read_proper a b integer y = go (legal_interval x integer) refl
   where
@@ -103,7 +78,7 @@ read_proper a b integer y = go (legal_interval x integer) refl
     proper : legal_interval x integer ≡ true → Proper integer (put_interval x)
     proper h = record { legal = put_legal x integer ∙ h; put = put_again x; format = put_format x (of_bits-fits binary64 a, of_bits-fits binary64 b) }
 
-    go : (t : Bool) → legal_interval x integer ≡ t → cond t (B.Bounds (put_interval x)) (B.Refused R.Parameter) ≡ B.Bounds y → Proper integer y
+    go : (t : Bool) → legal_interval x integer ≡ t → cond t (Ok (put_interval x)) (Err R.Parameter) ≡ Ok y → Proper integer y
     go true h e = let z : put_interval x ≡ y = cc in subst (Proper integer) z (proper h)
     go false h e = let z : ◌≡◌ {A = ℕ} 0 1 = cc in absurd (none z)
       where

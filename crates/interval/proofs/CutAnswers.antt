@@ -6,7 +6,9 @@ use lib.Ieee.Scale.{finite}
 use Rattle.base.proofs.Test.{≡→T, cases}
 use Rattle.base.specs.Lists.{Every}
 use Rattle.interval.specs.declared.Interval.{Interval}
-use Rattle.interval.specs.declared.PiecesAnswer.{PiecesAnswer}
+use Rattle.std.specs.Prelude.{Result}
+use Rattle.refusal.specs.declared.Refusal.{Refusal}
+use Rattle.interval.specs.declared.Pieces.{Pieces}
 use Rattle.interval.specs.Bounds.{legal_interval, put_interval, InFormat}
 use Rattle.interval.specs.Cuts.{width_is, span_of, first_cut, later_cut}
 use Rattle.interval.specs.Answers.{pieces_from, pieces_at, pieces_of}
@@ -56,13 +58,13 @@ pub later_good : (x : Interval) (integer : Bool) → InFormat x → legal_interv
 later_good x integer f h = record { proper = later_proper x integer f h; few = later_few x integer f h }
 
 -- ---- the answers
-pub record Answered (integer : Bool) (l : List Interval) (r : PiecesAnswer) : Type 0 where
+pub record Answered (integer : Bool) (l : List Interval) (r : Result Pieces Refusal) : Type 0 where
   pub pieces : pieces_of r ≡ l
   pub proper : Every (Proper integer) (pieces_of r)
   pub some : 1 ≤ length (pieces_of r)
   pub most : length (pieces_of r) ≤ 3
 
-answer : (integer : Bool) (l : List Interval) (r : PiecesAnswer) → Pieced integer l → r ≡ pieces_from l → Answered integer l r
+answer : (integer : Bool) (l : List Interval) (r : Result Pieces Refusal) → Pieced integer l → r ≡ pieces_from l → Answered integer l r
 answer integer l r g e =
     let back : pieces_of r ≡ l = ap pieces_of e ∙ few_back l g.few in
     let n = few_count l g.few in
@@ -74,12 +76,12 @@ answer integer l r g e =
     }
 
 module _ (x : Interval) (integer : Bool) (f : InFormat x) (h : legal_interval x integer ≡ true) where
-  pub first_answered : (r : PiecesAnswer) → r ≡ pieces_at (legal_interval x integer) (first_cut (put_interval x) integer) → Answered integer (first_cut (put_interval x) integer) r
+  pub first_answered : (r : Result Pieces Refusal) → r ≡ pieces_at (legal_interval x integer) (first_cut (put_interval x) integer) → Answered integer (first_cut (put_interval x) integer) r
   first_answered r e =
       let l = first_cut (put_interval x) integer in
       answer integer l r (first_good (put_interval x) integer (put_format x f) (put_legal x integer ∙ h)) (e ∙ ap (λ (z : Bool). pieces_at z l) h)
 
-  pub later_answered : (r : PiecesAnswer) → r ≡ pieces_at (legal_interval x integer) (later_cut (put_interval x) integer) → Answered integer (later_cut (put_interval x) integer) r
+  pub later_answered : (r : Result Pieces Refusal) → r ≡ pieces_at (legal_interval x integer) (later_cut (put_interval x) integer) → Answered integer (later_cut (put_interval x) integer) r
   later_answered r e =
       let l = later_cut (put_interval x) integer in
       answer integer l r (later_good (put_interval x) integer (put_format x f) (put_legal x integer ∙ h)) (e ∙ ap (λ (z : Bool). pieces_at z l) h)

@@ -1,23 +1,20 @@
--- The test of a number, -inf < x < +inf, and the kinds of interval by it: what each kind says of the bounds.
+-- std's test of a number, and the kinds of interval by it: what each kind says of the bounds.
 -- Assumes nothing.
-use Rattle.std.proofs.Common.{◌≡◌, Bool, true, false, cond, ◌&&◌, T, sym, refl, ap, ◌∙◌, subst}
-use lib.Ieee.{Float, nan, inf, fin, neg, lt}
+use Rattle.std.proofs.Common.{◌≡◌, Bool, true, false, cond, T, sym, refl, ap, ◌∙◌}
+use lib.Ieee.{Float, nan, inf, fin}
 use lib.Ieee.Scale.{finite}
+use Rattle.std.specs.Float.{float_is_finite}
 use Rattle.base.proofs.Test.{≡→T, and_both}
-use Rattle.interval.specs.declared.kind.Kind.{Kind}
 use Rattle.interval.specs.declared.kind.Kind.TheVariants.{Whole, UpTo, From, Between}
 use Rattle.interval.specs.Kinds.{kind_of}
 use Rattle.interval.specs.KindsComputed.{finite_ends}
 
--- -inf < x < +inf
-pub finite_test : (x i j : Float) → i ≡ inf false → j ≡ inf false → lt (neg i) x && lt x j ≡ finite x
-finite_test x i j p q = ap (λ (z : Float). lt (neg z) x && lt x j) p ∙ ap (λ (z : Float). lt (neg (inf false)) x && lt x z) q ∙ go x
-  where
-    go : (x : Float) → lt (neg (inf false)) x && lt x (inf false) ≡ finite x
-    go nan = unfold lt neg in refl
-    go (inf true) = unfold lt neg in refl
-    go (inf false) = unfold lt neg in refl
-    go (fin s m e) = unfold lt neg in refl
+-- std's test of a number is this crate's
+pub finite_is : (x : Float) → float_is_finite x ≡ finite x
+unfolding float_is_finite
+finite_is nan = refl
+finite_is (inf s) = refl
+finite_is (fin s m e) = refl
 
 -- what a kind carries is finite
 pub kind_ends : (a b : Float) → T (finite_ends (kind_of a b))
@@ -34,9 +31,6 @@ kind_ends a b = go (finite a) (finite b) refl refl
 pub kind_by : (a b : Float) (s t : Bool) → finite a ≡ s → finite b ≡ t → cond s (cond t (Between a b) (From a)) (cond t (UpTo b) Whole) ≡ kind_of a b
 unfolding kind_of
 kind_by a b s t p q = sym (ap (λ (z : Bool). cond z (cond (finite b) (Between a b) (From a)) (cond (finite b) (UpTo b) Whole)) p ∙ ap (λ (z : Bool). cond s (cond z (Between a b) (From a)) (cond z (UpTo b) Whole)) q)
-
-pub kind_holds : (k : Kind) (a b : Float) → k ≡ kind_of a b → T (finite_ends k)
-kind_holds k a b e = subst (λ (z : Kind). T (finite_ends z)) (sym e) (kind_ends a b)
 
 -- ---- what a kind says of the bounds
 pub kind_whole : (a b : Float) → kind_of a b ≡ Whole → (finite a ≡ false) × (finite b ≡ false)

@@ -7,12 +7,10 @@ use lib.Ieee.{Float, nan, inf, fin, binary64, sub, of_bits, lt, le, eq, fits}
 use lib.Ieee.Scale.{finite}
 use Rattle.base.proofs.Test.{≡→T, T→≡, and_left, and_right, cases, or_right}
 use Rattle.interval.specs.declared.Interval.{Interval}
-use Rattle.interval.specs.declared.PiecesAnswer.TheVariants as C
 use Rattle.interval.specs.declared.kind.Kind.{Kind}
 use Rattle.interval.specs.declared.kind.Kind.TheVariants as K
 use Rattle.interval.specs.Kinds.{kind_of}
 use Rattle.interval.specs.KindsComputed.{finite_ends}
-use Rattle.interval.specs.Answers.{pieces_from}
 use Rattle.interval.specs.Bounds.{in_units, zero_as, legal_bounds, legal_interval, put_interval, same_interval, InFormat}
 use Rattle.interval.specs.Cuts.{width_is, pair_of, span_of, keep_if, unlike_next, deduped, legal_three, first_cut}
 use Rattle.interval.proofs.Zeros.{as_again, as_fits, as_finite, as_units, as_eq_left, as_eq_right}
@@ -218,18 +216,18 @@ first_real x h g k = all_of x (low x ∷ all x ∷ high x ∷ []) (three_by x fa
 
 -- ---- as it is made
 module _ (x : Interval) (integer : Bool) (h : legal_interval x integer ≡ true) (p : put_interval x ≡ x) where
-  pub made_whole : kind_of x.lower x.upper ≡ K.Whole → C.One x ≡ pieces_from (first_cut x integer)
-  made_whole k = let e = kind_whole x.lower x.upper k in sym (ap pieces_from (first_whole x integer h e.0 e.1) ∙ ap C.One p)
+  pub made_whole : kind_of x.lower x.upper ≡ K.Whole → x ∷ [] ≡ first_cut x integer
+  made_whole k = let e = kind_whole x.lower x.upper k in sym ((first_whole x integer h e.0 e.1) ∙ ap (λ (z : Interval). z ∷ []) p)
 
-  pub made_up_to : (b : Float) (q : Interval) → kind_of x.lower x.upper ≡ K.UpTo b → q ≡ span_of b b → C.Two x q ≡ pieces_from (first_cut x integer)
+  pub made_up_to : (b : Float) (q : Interval) → kind_of x.lower x.upper ≡ K.UpTo b → q ≡ span_of b b → x ∷ q ∷ [] ≡ first_cut x integer
   made_up_to b q k d =
       let e = kind_up_to x.lower x.upper b k in
-      ap (C.Two x) (d ∙ ap (λ (z : Float). span_of z z) (sym e.2)) ∙ sym (ap pieces_from (first_up_to x integer h e.0 e.1) ∙ ap (λ (z : Interval). C.Two z (high x)) p)
+      ap (λ (z : Interval). x ∷ z ∷ []) (d ∙ ap (λ (z : Float). span_of z z) (sym e.2)) ∙ sym ((first_up_to x integer h e.0 e.1) ∙ ap (λ (z : Interval). z ∷ high x ∷ []) p)
 
-  pub made_from : (a : Float) (q : Interval) → kind_of x.lower x.upper ≡ K.From a → q ≡ span_of a a → C.Two q x ≡ pieces_from (first_cut x integer)
+  pub made_from : (a : Float) (q : Interval) → kind_of x.lower x.upper ≡ K.From a → q ≡ span_of a a → q ∷ x ∷ [] ≡ first_cut x integer
   made_from a q k d =
       let e = kind_from x.lower x.upper a k in
-      ap (λ (z : Interval). C.Two z x) (d ∙ ap (λ (z : Float). span_of z z) (sym e.2)) ∙ sym (ap pieces_from (first_from x integer h e.0 e.1) ∙ ap (C.Two (low x)) p)
+      ap (λ (z : Interval). z ∷ x ∷ []) (d ∙ ap (λ (z : Float). span_of z z) (sym e.2)) ∙ sym ((first_from x integer h e.0 e.1) ∙ ap (λ (z : Interval). low x ∷ z ∷ []) p)
 
   pub made_between : (a b : Float) → kind_of x.lower x.upper ≡ K.Between a b → pair_of a b ≡ x
   made_between a b k = let e = kind_between x.lower x.upper a b k in λ i. record { lower = sym e.2 i; upper = sym e.3 i }
@@ -251,20 +249,20 @@ module _ (a b : Float) (integer : Bool) (f : InFormat (pair_of a b)) (h : legal_
   as_integer : integer ≡ true → legal_interval (pair_of a b) true ≡ true
   as_integer i = ap (legal_interval (pair_of a b)) (sym i) ∙ h
 
-  pub made_one : (p : Interval) → p ≡ span_of a a → integer && eq a b ≡ true → C.One p ≡ pieces_from (first_cut (pair_of a b) integer)
+  pub made_one : (p : Interval) → p ≡ span_of a a → integer && eq a b ≡ true → p ∷ [] ≡ first_cut (pair_of a b) integer
   made_one p e t =
       let i = and_left integer (eq a b) t in
-      ap C.One e ∙ sym (ap (λ (z : Bool). pieces_from (first_cut (pair_of a b) z)) i ∙ ap pieces_from (first_one (pair_of a b) f (as_integer i) low_number high_number (and_right integer (eq a b) t)))
+      ap (λ (z : Interval). z ∷ []) e ∙ sym (ap (λ (z : Bool). first_cut (pair_of a b) z) i ∙ (first_one (pair_of a b) f (as_integer i) low_number high_number (and_right integer (eq a b) t)))
 
-  pub made_two : (p r : Interval) → p ≡ span_of a a → r ≡ span_of b b → integer && eq (sub binary64 b a) (of_bits binary64 0x3ff0_0000_0000_0000) ≡ true → C.Two p r ≡ pieces_from (first_cut (pair_of a b) integer)
+  pub made_two : (p r : Interval) → p ≡ span_of a a → r ≡ span_of b b → integer && eq (sub binary64 b a) (of_bits binary64 0x3ff0_0000_0000_0000) ≡ true → p ∷ r ∷ [] ≡ first_cut (pair_of a b) integer
   made_two p r e d t =
       let w = eq (sub binary64 b a) (of_bits binary64 0x3ff0_0000_0000_0000) in
       let i = and_left integer w t in
-      ap (λ (z : Interval). C.Two z r) e ∙ ap (C.Two (span_of a a)) d
-      ∙ sym (ap (λ (z : Bool). pieces_from (first_cut (pair_of a b) z)) i ∙ ap pieces_from (first_two (pair_of a b) f (as_integer i) low_number high_number (sym (width_one (pair_of a b) f (as_integer i)) ∙ and_right integer w t)))
+      ap (λ (z : Interval). z ∷ r ∷ []) e ∙ ap (λ (z : Interval). span_of a a ∷ z ∷ []) d
+      ∙ sym (ap (λ (z : Bool). first_cut (pair_of a b) z) i ∙ (first_two (pair_of a b) f (as_integer i) low_number high_number (sym (width_one (pair_of a b) f (as_integer i)) ∙ and_right integer w t)))
 
-  pub made_three : (p q r : Interval) → p ≡ span_of a a → q ≡ span_of a b → r ≡ span_of b b → integer && eq a b ≡ false → integer && eq (sub binary64 b a) (of_bits binary64 0x3ff0_0000_0000_0000) ≡ false → C.Three p q r ≡ pieces_from (first_cut (pair_of a b) integer)
-  made_three p q r e k d s t = ap (λ (z : Interval). C.Three z q r) e ∙ ap (λ (z : Interval). C.Three (span_of a a) z r) k ∙ ap (C.Three (span_of a a) (span_of a b)) d ∙ cases integer yes no
+  pub made_three : (p q r : Interval) → p ≡ span_of a a → q ≡ span_of a b → r ≡ span_of b b → integer && eq a b ≡ false → integer && eq (sub binary64 b a) (of_bits binary64 0x3ff0_0000_0000_0000) ≡ false → p ∷ q ∷ r ∷ [] ≡ first_cut (pair_of a b) integer
+  made_three p q r e k d s t = ap (λ (z : Interval). z ∷ q ∷ r ∷ []) e ∙ ap (λ (z : Interval). span_of a a ∷ z ∷ r ∷ []) k ∙ ap (λ (z : Interval). span_of a a ∷ span_of a b ∷ z ∷ []) d ∙ cases integer yes no
     where
       w : Bool
       w = eq (sub binary64 b a) (of_bits binary64 0x3ff0_0000_0000_0000)
@@ -272,10 +270,10 @@ module _ (a b : Float) (integer : Bool) (f : InFormat (pair_of a b)) (h : legal_
       drop_yes : (u v : Bool) → u ≡ true → u && v ≡ false → v ≡ false
       drop_yes u v j k = ap (λ (z : Bool). z && v) (sym j) ∙ k
 
-      yes : integer ≡ true → C.Three (span_of a a) (span_of a b) (span_of b b) ≡ pieces_from (first_cut (pair_of a b) integer)
+      yes : integer ≡ true → span_of a a ∷ span_of a b ∷ span_of b b ∷ [] ≡ first_cut (pair_of a b) integer
       yes i =
-          sym (ap (λ (z : Bool). pieces_from (first_cut (pair_of a b) z)) i
-          ∙ ap pieces_from (first_three (pair_of a b) (as_integer i) low_number high_number (drop_yes integer (eq a b) i s) (sym (width_one (pair_of a b) f (as_integer i)) ∙ drop_yes integer w i t)))
+          sym (ap (λ (z : Bool). first_cut (pair_of a b) z) i
+          ∙ (first_three (pair_of a b) (as_integer i) low_number high_number (drop_yes integer (eq a b) i s) (sym (width_one (pair_of a b) f (as_integer i)) ∙ drop_yes integer w i t)))
 
-      no : integer ≡ false → C.Three (span_of a a) (span_of a b) (span_of b b) ≡ pieces_from (first_cut (pair_of a b) integer)
-      no i = sym (ap (λ (z : Bool). pieces_from (first_cut (pair_of a b) z)) i ∙ ap pieces_from (first_real (pair_of a b) (ap (legal_interval (pair_of a b)) (sym i) ∙ h) low_number high_number))
+      no : integer ≡ false → span_of a a ∷ span_of a b ∷ span_of b b ∷ [] ≡ first_cut (pair_of a b) integer
+      no i = sym (ap (λ (z : Bool). first_cut (pair_of a b) z) i ∙ (first_real (pair_of a b) (ap (legal_interval (pair_of a b)) (sym i) ∙ h) low_number high_number))

@@ -9,11 +9,9 @@ use Rattle.base.proofs.Test.{≡→T, and_left, by_test, cond_yes, cond_no}
 use Rattle.base.specs.Lists.{Every}
 use Rattle.base.proofs.ListLaws.{every_append}
 use Rattle.interval.specs.declared.Interval.{Interval}
-use Rattle.interval.specs.declared.PiecesAnswer.TheVariants as P
 use Rattle.interval.specs.Bounds.{in_units, legal_interval, put_interval, InFormat, zero_as}
 use Rattle.interval.specs.Kinds.{midpoint_of, cut_point_of}
 use Rattle.interval.specs.Cuts.{width_is, subdivisible, span_of, narrowed, thinned, three_at, later_cut}
-use Rattle.interval.specs.Answers.{pieces_from}
 use Rattle.interval.proofs.Zeros.{as_units}
 use Rattle.interval.proofs.Legality.{legal_bounds_lem, whole_ends}
 use Rattle.interval.proofs.CutPoint.{Divides, cut_good, half_divides}
@@ -146,31 +144,24 @@ pub narrow_no : (p : Interval) → width_is 2 p && subdivisible p true ≡ false
 unfolding narrowed
 narrow_no p h = sym (cond_no (width_is 2 p && subdivisible p true) (span_of (midpoint_of p) (midpoint_of p)) p h)
 
-pub around_by : (l p r : Interval) (s t : Bool) → width_is 1 l ≡ s → width_is 1 r ≡ t
-    → pieces_from (cond s [] (narrowed l ∷ []) ++ (p ∷ cond t [] (narrowed r ∷ []))) ≡ pieces_from (thinned l ++ (p ∷ thinned r))
-unfolding thinned
-around_by l p r s t e d =
-    sym (ap (λ (z : Bool). pieces_from (cond z [] (narrowed l ∷ []) ++ (p ∷ cond (width_is 1 r) [] (narrowed r ∷ [])))) e
-    ∙ ap (λ (z : Bool). pieces_from (cond s [] (narrowed l ∷ []) ++ (p ∷ cond z [] (narrowed r ∷ [])))) d)
-
 module _ (x : Interval) (integer : Bool) (c : Float) (l p r : Interval) (e : c ≡ cut_point_of x integer) (el : l ≡ span_of x.lower c) (ep : p ≡ span_of c c) (er : r ≡ span_of c x.upper) where
-  pub later_yes : integer ≡ true → pieces_from (thinned l ++ (p ∷ thinned r)) ≡ pieces_from (later_cut x integer)
+  pub later_yes : integer ≡ true → thinned l ++ (p ∷ thinned r) ≡ later_cut x integer
   later_yes h =
       let at : c ≡ cut_point_of x true = e ∙ ap (cut_point_of x) h in
-      ap (λ (z : Interval). pieces_from (thinned z ++ (p ∷ thinned r))) (el ∙ ap (λ (z : Float). span_of x.lower z) at)
-      ∙ ap (λ (z : Interval). pieces_from (thinned (span_of x.lower (cut_point_of x true)) ++ (z ∷ thinned r))) (ep ∙ ap (λ (z : Float). span_of z z) at)
-      ∙ ap (λ (z : Interval). pieces_from (thinned (span_of x.lower (cut_point_of x true)) ++ (span_of (cut_point_of x true) (cut_point_of x true) ∷ thinned z))) (er ∙ ap (λ (z : Float). span_of z x.upper) at)
-      ∙ ap pieces_from (sym (later_integer x))
-      ∙ ap (λ (z : Bool). pieces_from (later_cut x z)) (sym h)
+      ap (λ (z : Interval). thinned z ++ (p ∷ thinned r)) (el ∙ ap (λ (z : Float). span_of x.lower z) at)
+      ∙ ap (λ (z : Interval). thinned (span_of x.lower (cut_point_of x true)) ++ (z ∷ thinned r)) (ep ∙ ap (λ (z : Float). span_of z z) at)
+      ∙ ap (λ (z : Interval). thinned (span_of x.lower (cut_point_of x true)) ++ (span_of (cut_point_of x true) (cut_point_of x true) ∷ thinned z)) (er ∙ ap (λ (z : Float). span_of z x.upper) at)
+      ∙ sym (later_integer x)
+      ∙ ap (λ (z : Bool). later_cut x z) (sym h)
 
-  pub later_no : integer ≡ false → P.Three l p r ≡ pieces_from (later_cut x integer)
+  pub later_no : integer ≡ false → l ∷ p ∷ r ∷ [] ≡ later_cut x integer
   later_no h =
       let at : c ≡ cut_point_of x false = e ∙ ap (cut_point_of x) h in
-      ap (λ (z : Interval). P.Three z p r) (el ∙ ap (λ (z : Float). span_of x.lower z) at)
-      ∙ ap (λ (z : Interval). P.Three (span_of x.lower (cut_point_of x false)) z r) (ep ∙ ap (λ (z : Float). span_of z z) at)
-      ∙ ap (λ (z : Interval). P.Three (span_of x.lower (cut_point_of x false)) (span_of (cut_point_of x false) (cut_point_of x false)) z) (er ∙ ap (λ (z : Float). span_of z x.upper) at)
-      ∙ ap pieces_from (sym (later_real x))
-      ∙ ap (λ (z : Bool). pieces_from (later_cut x z)) (sym h)
+      ap (λ (z : Interval). z ∷ p ∷ r ∷ []) (el ∙ ap (λ (z : Float). span_of x.lower z) at)
+      ∙ ap (λ (z : Interval). span_of x.lower (cut_point_of x false) ∷ z ∷ r ∷ []) (ep ∙ ap (λ (z : Float). span_of z z) at)
+      ∙ ap (λ (z : Interval). span_of x.lower (cut_point_of x false) ∷ span_of (cut_point_of x false) (cut_point_of x false) ∷ z ∷ []) (er ∙ ap (λ (z : Float). span_of z x.upper) at)
+      ∙ sym (later_real x)
+      ∙ ap (λ (z : Bool). later_cut x z) (sym h)
 
   -- the outer pieces of an integer parameter are legal
   pub later_sides : InFormat x → legal_interval x integer ≡ true → integer ≡ true → (legal_interval l true ≡ true) × (legal_interval r true ≡ true)

@@ -3,7 +3,7 @@
 use Rattle.std.proofs.Common.{◌≡◌, Bool, true, false, not, ◌&&◌, ◌||◌, refl, ap, ◌∙◌}
 use mathlib.Core.Bool.{false≢true}
 use lib.Ieee.{Float, inf, neg, lt, le}
-use Rattle.base.proofs.Test.{and_left, and_right, and_both}
+use Rattle.base.proofs.Test.{≡→T, and_left, and_right, and_both}
 use Rattle.interval.specs.declared.Interval.{Interval}
 use Rattle.interval.specs.Bounds.{minus_zero, plus_zero, legal_bounds, whole_bound, legal_interval, put_interval}
 use Rattle.interval.proofs.Zeros.{as_again, as_whole, as_lt_left, as_lt_right, as_le}
@@ -58,3 +58,6 @@ put_legal x integer =
     ap (λ (z : Bool). z && (not integer || (whole_bound (put_interval x).lower && whole_bound (put_interval x).upper))) (put_bounds x.lower x.upper)
     ∙ ap (λ (z : Bool). legal_bounds x.lower x.upper && (not integer || (z && whole_bound (put_interval x).upper))) (as_whole true x.lower)
     ∙ ap (λ (z : Bool). legal_bounds x.lower x.upper && (not integer || (whole_bound x.lower && z))) (as_whole false x.upper)
+
+-- what `simple_fraction` cites, in one name
+pub ruleset order_rules = (legal_bounds_lem, ≡→T)

@@ -22,7 +22,6 @@ pub mod Beside
 -- intervals, their kinds and their cut points
 pub mod Legality
 pub mod Sameness
-pub mod Answering
 pub mod FiniteEnds
 pub mod CutUpTo
 pub mod CutInside

@@ -7,3 +7,4 @@ pub mod KindsComputed
 pub mod Cuts
 pub mod Fraction
 pub mod Answers
+pub mod AnswersComputed

@@ -1,13 +1,14 @@
 // The first and the later cut of a legal interval: the Rust's `subdivide0` and `subdivide1`.
 // One to three pieces, each put, as an enum without an array.
-ghost use Rattle.std.specs.Prelude.{◌≡◌, true, ◌&&◌, T, ◌∷◌, ◌++◌};
+ghost use Rattle.std.specs.Prelude.{◌≡◌, true, ◌&&◌, T, [], ◌∷◌, ◌++◌};
+ghost use Rattle.std.specs.List.{cons_option};
 ghost use Rattle.std.specs.Float.Ieee.Scale.{finite};
-ghost use Rattle.interval.specs.Answers.{pieces_from};
+ghost use Rattle.interval.specs.Answers.{listed};
 ghost use Rattle.interval.specs.Bounds.{legal_interval, put_interval};
 ghost use Rattle.interval.specs.Cuts.{pair_of, span_of, width_is, narrowed, thinned, first_cut, later_cut};
 
 use crate::kind::{Kind, cut_point, kind_of, middle, splits};
-use crate::{Interval, PiecesAnswer, put};
+use crate::{Interval, Pieces, put};
 
 // The piece [a, b], put; the Rust's `interval!(a, b)`.
 fn span(a: f64, b: f64) -> Interval
@@ -17,32 +18,32 @@ fn span(a: f64, b: f64) -> Interval
 }
 
 // The first cut of a finite interval: its ends apart, unless they are one integer or next to each other.
-fn first_between(a: f64, b: f64, integer: bool) -> PiecesAnswer
+fn first_between(a: f64, b: f64, integer: bool) -> Pieces
     requires legal { legal_interval (pair_of a b) integer ≡ true }
     requires finite { T (finite a && finite b) }
-    ensures { result ≡ pieces_from (first_cut (pair_of a b) integer) }
+    ensures { listed result ≡ first_cut (pair_of a b) integer }
 {
     let low = span(a, a);
     let high = span(b, b);
     if integer & (a == b) {
-        return PiecesAnswer::One(low);
+        return Pieces::One(low);
     }
     if integer & (b - a == 1.0) {
-        return PiecesAnswer::Two(low, high);
+        return Pieces::Two(low, high);
     }
-    PiecesAnswer::Three(low, span(a, b), high)
+    Pieces::Three(low, span(a, b), high)
 }
 
 // The first cut: an infinite end is no piece of its own.
-pub(crate) fn first(x: Interval, integer: bool) -> PiecesAnswer
+pub(crate) fn first(x: Interval, integer: bool) -> Pieces
     requires legal { legal_interval x integer ≡ true }
     requires stored { put_interval x ≡ x }
-    ensures { result ≡ pieces_from (first_cut x integer) }
+    ensures { listed result ≡ first_cut x integer }
 {
     match kind_of(x) {
-        Kind::Whole => PiecesAnswer::One(x),
-        Kind::UpTo(b) => PiecesAnswer::Two(x, span(b, b)),
-        Kind::From(a) => PiecesAnswer::Two(span(a, a), x),
+        Kind::Whole => Pieces::One(x),
+        Kind::UpTo(b) => Pieces::Two(x, span(b, b)),
+        Kind::From(a) => Pieces::Two(span(a, a), x),
         Kind::Between(a, b) => first_between(a, b, integer),
     }
 }
@@ -68,32 +69,33 @@ fn narrow(p: Interval) -> Interval
     }
 }
 
-// A point of an integer parameter, and what is left of the pieces on both sides of it.
-fn around(left: Interval, point: Interval, right: Interval) -> PiecesAnswer
-    requires { (legal_interval left true ≡ true) × (legal_interval right true ≡ true) }
-    ensures { result ≡ pieces_from (thinned left ++ (point ∷ thinned right)) }
+// What is left of a piece of an integer parameter.
+#[tactic(auto, unfolding(crate::specs::Cuts::thinned))]
+fn thinned(p: Interval) -> Option<Interval>
+    requires { legal_interval p true ≡ true }
+    ensures { cons_option result [] ≡ thinned p }
 {
-    let l = narrow(left);
-    let r = narrow(right);
-    if is_gone(left) {
-        if is_gone(right) {
-            PiecesAnswer::One(point)
-        } else {
-            PiecesAnswer::Two(point, r)
-        }
-    } else {
-        if is_gone(right) {
-            PiecesAnswer::Two(l, point)
-        } else {
-            PiecesAnswer::Three(l, point, r)
-        }
+    if is_gone(p) { None } else { Some(narrow(p)) }
+}
+
+// A point of an integer parameter, and what is left of the pieces on both sides of it.
+fn around(left: Interval, point: Interval, right: Interval) -> Pieces
+    requires left { legal_interval left true ≡ true }
+    requires right { legal_interval right true ≡ true }
+    ensures { listed result ≡ thinned left ++ (point ∷ thinned right) }
+{
+    match (thinned(left), thinned(right)) {
+        (None, None) => Pieces::One(point),
+        (None, Some(r)) => Pieces::Two(point, r),
+        (Some(l), None) => Pieces::Two(l, point),
+        (Some(l), Some(r)) => Pieces::Three(l, point, r),
     }
 }
 
-// The later cut. It is asked of intervals that are not subdivisible too; the point is always a piece.
-pub(crate) fn later(x: Interval, integer: bool) -> PiecesAnswer
+// The later cut, by another rule than the first: at a point inside, where the first cuts the ends off. It is asked of intervals that are not subdivisible too; the point is always a piece.
+pub(crate) fn later(x: Interval, integer: bool) -> Pieces
     requires { legal_interval x integer ≡ true }
-    ensures { result ≡ pieces_from (later_cut x integer) }
+    ensures { listed result ≡ later_cut x integer }
 {
     let c = cut_point(kind_of(x), integer);
     let left = span(x.lower, c);
@@ -102,6 +104,6 @@ pub(crate) fn later(x: Interval, integer: bool) -> PiecesAnswer
     if integer {
         around(left, point, right)
     } else {
-        PiecesAnswer::Three(left, point, right)
+        Pieces::Three(left, point, right)
     }
 }

@@ -1,5 +1,4 @@
-// What the crates need of single f64s: the tests, the neighbours, the put zeros, half of a sum, and rounding to whole.
-// None of it is built in: there is no literal for infinity, and a cast from a float must lose nothing.
+// What the crates need of single f64s: the neighbours, the put zeros, half of a sum, and rounding to whole.
 ghost use Rattle.std.specs.Prelude.{◌≡◌, true, false, ◌&&◌, T, pos};
 ghost use Rattle.std.specs.Float.{inf, fin, binary64};
 ghost use Rattle.std.specs.Float.Ieee.{lt, nan_bits};
@@ -8,25 +7,11 @@ ghost use Rattle.interval.specs.Bounds.{plus_zero, minus_zero, whole_bound};
 ghost use Rattle.interval.specs.Middle.{half_sum, whole_near, whole_if};
 ghost use Rattle.interval.specs.Next.{next_below, next_above};
 
-// Plus infinity.
-pub(crate) fn infinity() -> f64
-    ensures { result ≡ inf false }
-{
-    1.0 / 0.0
-}
-
-// Whether x is a number: no infinity and no NaN.
-pub fn is_finite(x: f64) -> bool
-    ensures { result ≡ finite x }
-{
-    (-infinity() < x) & (x < infinity())
-}
-
-// The next number below a finite x; what is not finite stays as it is.
+// The next number below a finite x; what is not finite stays as it is, where `next_down` takes +inf to the largest number.
 pub fn next_below(x: f64) -> f64
     ensures { result ≡ next_below x }
 {
-    if !is_finite(x) {
+    if !x.is_finite() {
         return x;
     }
     if x > 0.0 {
@@ -67,12 +52,13 @@ pub(crate) fn minus_zero(x: f64) -> f64
 }
 
 // Half of a + b, rounded once. Where the sum overflows, both are so large that the halves are exact.
+// `midpoint` adds the halves also where a half may be rounded: that the whole is rounded once would be a law of its own.
 pub(crate) fn half_sum(a: f64, b: f64) -> f64
     requires { T (finite a && finite b) }
     ensures { result ≡ half_sum a b }
 {
     let s = a + b;
-    if is_finite(s) {
+    if s.is_finite() {
         plus_zero(s * 0.5)
     } else {
         plus_zero(a * 0.5 + b * 0.5)
@@ -80,6 +66,7 @@ pub(crate) fn half_sum(a: f64, b: f64) -> f64
 }
 
 // The whole number nearest to an x above zero, half up. From 2^52 on every f64 is whole.
+// The library states `round` by a ratio of its own, and no law joins that to the units of the definition here.
 fn near_whole(x: f64) -> f64
     requires { lt (fin false 0 (pos 0)) x ≡ true }
     ensures { result ≡ whole_near x }

@@ -8,12 +8,10 @@ ghost use Rattle.interval.specs.KindsComputed.{finite_ends};
 ghost use Rattle.interval.specs.Cuts.{subdivisible};
 
 use crate::Interval;
-use crate::float::{half_sum, is_finite, plus_zero, whole_if};
-
-const MAX: f64 = 1.7976931348623157e308;
+use crate::float::{half_sum, plus_zero, whole_if};
 
 // Which ends are finite, with those that are.
-#[derive(Clone, Copy)]
+#[derive(Clone, Copy, Debug, PartialEq)]
 pub enum Kind {
     Whole,
     UpTo(f64),
@@ -22,23 +20,18 @@ pub enum Kind {
 }
 
 // The kind of an interval.
+#[tactic(auto, using(crate::proofs::FiniteEnds::finite_is), unfolding(crate::specs::Kinds::kind_of))]
 pub(crate) fn kind_of(x: Interval) -> Kind
-    ensures { result ≡ kind_of x.lower x.upper }
+    ensures kind { result ≡ kind_of x.lower x.upper }
+    ensures ends { T (finite_ends result) }
 {
     let a = x.lower;
     let b = x.upper;
-    if is_finite(a) {
-        if is_finite(b) {
-            Kind::Between(a, b)
-        } else {
-            Kind::From(a)
-        }
-    } else {
-        if is_finite(b) {
-            Kind::UpTo(b)
-        } else {
-            Kind::Whole
-        }
+    match (a.is_finite(), b.is_finite()) {
+        (true, true) => Kind::Between(a, b),
+        (true, false) => Kind::From(a),
+        (false, true) => Kind::UpTo(b),
+        (false, false) => Kind::Whole,
     }
 }
 
@@ -49,8 +42,8 @@ pub(crate) fn middle(k: Kind) -> f64
 {
     match k {
         Kind::Whole => 0.0,
-        Kind::UpTo(_) => -MAX,
-        Kind::From(_) => MAX,
+        Kind::UpTo(_) => -f64::MAX,
+        Kind::From(_) => f64::MAX,
         Kind::Between(a, b) => half_sum(a, b),
     }
 }
@@ -62,7 +55,7 @@ fn cut_up_to(b: f64) -> f64
 {
     if b < 0.0 {
         let d = b * 2.0;
-        if d < -MAX { -MAX } else { d }
+        if d < -f64::MAX { -f64::MAX } else { d }
     } else if b > 0.0 {
         0.0
     } else {
@@ -84,6 +77,7 @@ pub(crate) fn cut_point(k: Kind, integer: bool) -> f64
 }
 
 // Whether an interval is subdivisible.
+#[tactic(auto, unfolding(crate::specs::Cuts::subdivisible))]
 pub(crate) fn splits(x: Interval, integer: bool) -> bool
     ensures { result ≡ subdivisible x integer }
 {

@@ -1,4 +1,5 @@
 -- What every child of an undamaged block of a legal picture has: its place inside the picture, its ranges, its parameters. Assumes nothing.
+use Rattle.std.specs.Prelude.{Option, Some, None}
 use mathlib.Core.Path.{◌≡◌, refl, sym, ap, ◌∙◌}
 use mathlib.Core.Bool.{Bool, true, false, cond, true≢false}
 use mathlib.Core.List.{List, [], ◌∷◌}
@@ -24,8 +25,6 @@ use Rattle.interval.proofs.LaterCut.{later_proper}
 use Rattle.queue.specs.declared.Block.{Block}
 use Rattle.queue.specs.declared.directions.Direction.{Direction}
 use Rattle.queue.specs.declared.directions.Direction.TheVariants as D
-use Rattle.queue.specs.declared.directions.DirectionAt.{DirectionAt}
-use Rattle.queue.specs.declared.directions.DirectionAt.TheVariants as A
 use Rattle.queue.specs.Directions.{in_use, used_of, directions, parameters, direction_at}
 use Rattle.queue.specs.Block.{is_integer, parameter_of, with_parameter}
 use Rattle.queue.proofs.RoundTrip.{ParameterFine, CanQueue}
@@ -97,13 +96,13 @@ module _ (p : Chosen) (b : Block) (ok : sound p b ≡ true) where
   cut_placed : (d : Direction) → Every (ChildPlace p b) (children_cut b d)
   cut_placed d = every_also (InPlace b) (ChildPlace p b) placed_stays (children_cut b d) (cut_in_place b d)
 
-  along_placed : (a : DirectionAt) → direction_of p b ≡ a → Every (ChildPlace p b) (children_along p b a)
-  along_placed (A.Along D.XY) e = xy_placed (cut_along p b D.XY ok e refl)
-  along_placed (A.Along D.M) e = cut_placed D.M
-  along_placed (A.Along D.N) e = cut_placed D.N
-  along_placed (A.Along D.Theta) e = cut_placed D.Theta
-  along_placed (A.Along D.T) e = cut_placed D.T
-  along_placed A.Beyond e = (placed_stays b record { x = refl; y = refl; dir = refl }, tt)
+  along_placed : (a : Option Direction) → direction_of p b ≡ a → Every (ChildPlace p b) (children_along p b a)
+  along_placed (Some D.XY) e = xy_placed (cut_along p b D.XY ok e refl)
+  along_placed (Some D.M) e = cut_placed D.M
+  along_placed (Some D.N) e = cut_placed D.N
+  along_placed (Some D.Theta) e = cut_placed D.Theta
+  along_placed (Some D.T) e = cut_placed D.T
+  along_placed None e = (placed_stays b record { x = refl; y = refl; dir = refl }, tt)
 
   pub children_placed : Every (ChildPlace p b) (children_of p b)
   unfolding children_of
@@ -123,13 +122,13 @@ module _ (p : Chosen) (b : Block) (ok : sound p b ≡ true) where
       by_test (λ l. 1 ≤ length l) (ltb 48 b.x.rank) (kept_inside p (quarters_of b)) (quarters_of b)
       (λ e. rw (first_begins up) (omega arith)) (λ e. omega arith)
 
-  along_some : (a : DirectionAt) → direction_of p b ≡ a → 1 ≤ length (children_along p b a)
-  along_some (A.Along D.XY) e = xy_some (cut_along p b D.XY ok e refl)
-  along_some (A.Along D.M) e = (cut_count b D.M).0
-  along_some (A.Along D.N) e = (cut_count b D.N).0
-  along_some (A.Along D.Theta) e = (cut_count b D.Theta).0
-  along_some (A.Along D.T) e = (cut_count b D.T).0
-  along_some A.Beyond e = omega arith
+  along_some : (a : Option Direction) → direction_of p b ≡ a → 1 ≤ length (children_along p b a)
+  along_some (Some D.XY) e = xy_some (cut_along p b D.XY ok e refl)
+  along_some (Some D.M) e = (cut_count b D.M).0
+  along_some (Some D.N) e = (cut_count b D.N).0
+  along_some (Some D.Theta) e = (cut_count b D.Theta).0
+  along_some (Some D.T) e = (cut_count b D.T).0
+  along_some None e = omega arith
 
   -- a sound block has a child
   pub children_some : 1 ≤ length (children_of p b)
@@ -144,18 +143,18 @@ some_child p b =
 -- WHICH PARAMETERS THEY HAVE
 
 -- a direction that a place names is in use
-pub named_in_use : (set : ℕ) (ds : List Direction) (at : ℕ) (d : Direction) → direction_at (used_of set ds) at ≡ A.Along d → in_use set d ≡ true
+pub named_in_use : (set : ℕ) (ds : List Direction) (at : ℕ) (d : Direction) → direction_at (used_of set ds) at ≡ Some d → in_use set d ≡ true
 unfolding used_of direction_at
 named_in_use set [] at d e = let z : ◌≡◌ {A = ℕ} 0 1 = cc in absurd (omega arith)
 named_in_use set (c ∷ ds) at d e = go (in_use set c) refl at (λ n. named_in_use set ds n d) e
   where
-    go : (t : Bool) → in_use set c ≡ t → (n : ℕ) → ((m : ℕ) → direction_at (used_of set ds) m ≡ A.Along d → in_use set d ≡ true)
-        → direction_at (cond t (c ∷ used_of set ds) (used_of set ds)) n ≡ A.Along d → in_use set d ≡ true
+    go : (t : Bool) → in_use set c ≡ t → (n : ℕ) → ((m : ℕ) → direction_at (used_of set ds) m ≡ Some d → in_use set d ≡ true)
+        → direction_at (cond t (c ∷ used_of set ds) (used_of set ds)) n ≡ Some d → in_use set d ≡ true
     go true f zero ih g = let h : c ≡ d = cc in rw (← h) f
     go true f (suc n) ih g = ih n g
     go false f n ih g = ih n g
 
-pub direction_in_use : (p : Chosen) (b : Block) (d : Direction) → direction_of p b ≡ A.Along d → in_use p.set d ≡ true
+pub direction_in_use : (p : Chosen) (b : Block) (d : Direction) → direction_of p b ≡ Some d → in_use p.set d ≡ true
 unfolding directions
 direction_in_use p b d e = named_in_use p.set (D.XY ∷ parameters) b.dir d e
 
@@ -229,19 +228,19 @@ module _ (p : Chosen) (b : Block) (ok : sound p b ≡ true) (f : Fine p.set b) w
       (λ e. each_kept p (Fine p.set) (quarters_of b) (every_also (Fine p.set) (λ c. begins_inside p c ≡ true → Fine p.set c) (λ c g t. g) (quarters_of b) q))
       (λ e. q)
 
-  cut_fine : (d : Direction) → direction_of p b ≡ A.Along d → Every (Fine p.set) (children_cut b d)
+  cut_fine : (d : Direction) → direction_of p b ≡ Some d → Every (Fine p.set) (children_cut b d)
   unfolding children_cut
   cut_fine d e =
       let u = direction_in_use p b d e in
       every_map (Proper (is_integer d)) (Fine p.set) (with_parameter b d) (λ q z. fine_piece p.set b d q u f z) (later_cut (put_interval (parameter_of b d)) (is_integer d)) (cut_proper p.set b d u f)
 
-  along_fine : (a : DirectionAt) → direction_of p b ≡ a → Every (Fine p.set) (children_along p b a)
-  along_fine (A.Along D.XY) e = xy_fine
-  along_fine (A.Along D.M) e = cut_fine D.M e
-  along_fine (A.Along D.N) e = cut_fine D.N e
-  along_fine (A.Along D.Theta) e = cut_fine D.Theta e
-  along_fine (A.Along D.T) e = cut_fine D.T e
-  along_fine A.Beyond e = (f, tt)
+  along_fine : (a : Option Direction) → direction_of p b ≡ a → Every (Fine p.set) (children_along p b a)
+  along_fine (Some D.XY) e = xy_fine
+  along_fine (Some D.M) e = cut_fine D.M e
+  along_fine (Some D.N) e = cut_fine D.N e
+  along_fine (Some D.Theta) e = cut_fine D.Theta e
+  along_fine (Some D.T) e = cut_fine D.T e
+  along_fine None e = (f, tt)
 
   pub children_fine : Every (Fine p.set) (children_of p b)
   unfolding children_of

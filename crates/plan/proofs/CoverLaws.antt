@@ -1,23 +1,24 @@
 -- Which pixels a block covers, and what marking the pixels of one block does to the sight of another. Assumes nothing.
-use mathlib.Core.Path.{◌≡◌, refl, sym, ap, ◌∙◌}
+use mathlib.Core.Path.{◌≡◌, sym, ap, ◌∙◌}
 use mathlib.Core.Bool.{Bool, true, false, cond, ◌&&◌}
 use mathlib.Core.List.{List}
 use Prim.Native.Nat.{ℕ, ◌*◌, ◌≤◌, ◌<◌}
 use lib.ListN.{length}
 use borrow.Author.Tests.{le-leb}
+use Rattle.std.specs.Prelude.{Some}
 use Rattle.base.proofs.Test.{cond_yes, cond_no, both_ways}
 use Rattle.coordinate.proofs.Covering.{covers1}
 use Rattle.image.specs.declared.Op.TheVariants as Op
 use Rattle.image.specs.Cell.{Cell, meanings, done_to, is_marked, of_kind}
 use Rattle.image.specs.Range.{rectangle_of, picture_ready}
-use Rattle.image.specs.Painting.{pixel_cell, every_of, seen_if, all_true_seen, some_seen}
+use Rattle.image.specs.Painting.{pixel_cell, all_true_seen, some_seen}
 use Rattle.image.proofs.PaintLaws.{painted_length}
 use Rattle.image.proofs.BlockLaws.{rectangle_ready, painted_pixel, every_pixel, pixels_every}
 use Rattle.queue.specs.declared.Block.{Block}
 use Rattle.decide.specs.declared.Chosen.{Chosen}
-use Rattle.decide.specs.Damage.{covered_cells, cell_damaged, damage_seen}
+use Rattle.decide.specs.Damage.{cell_damaged, damage_seen}
 use Rattle.plan.specs.Plan.{painted_under, all_true}
-use Rattle.plan.specs.AtOnce.{is_seen, true_at}
+use Rattle.plan.specs.AtOnce.{true_at}
 
 -- does a block cover the pixel in column px that is the py-th from the bottom?
 abbrev pub covers : Block → ℕ → ℕ → Bool
@@ -71,10 +72,6 @@ module _ (p : Chosen) (c d : Block) (l : List Cell) (enough : p.width * p.height
 
 -- WHAT THE CODE SEES IN LENT CELLS
 
-seen_if_lem : (b : Bool) → is_seen (seen_if b) ≡ b
-seen_if_lem true = refl
-seen_if_lem false = refl
-
 -- is every cell True that the child covers?
 abbrev pub true_as_given : Chosen → Block → List ℕ → Bool
 true_as_given p c cells = true_at p c.x c.y cells
@@ -86,8 +83,8 @@ module _ (p : Chosen) (c : Block) (cells : List ℕ) (enough : p.width * p.heigh
   -- with cells for all pixels it sees what is there
   pub given_true : true_as_given p c cells ≡ all_true p c (meanings cells)
   unfolding true_at all_true all_true_seen
-  given_true = ap is_seen (cond_yes (picture_ready p.width p.height (rectangle_of c.x c.y p.width p.height) (length cells)) _ _ ready) ∙ seen_if_lem (every_of is_marked (covered_cells p c (meanings cells)))
+  given_true = rw ready
 
-  pub given_damaged : damage_seen p c cells ≡ seen_if (cell_damaged p c (meanings cells))
+  pub given_damaged : damage_seen p c cells ≡ Some (cell_damaged p c (meanings cells))
   unfolding some_seen cell_damaged of_kind
-  given_damaged = cond_yes (picture_ready p.width p.height (rectangle_of c.x c.y p.width p.height) (length cells)) _ _ ready
+  given_damaged = rw ready

@@ -134,7 +134,8 @@ module _ (p : Chosen) (b : Block) (ok : sound p b ≡ true) (os : List Outcome) 
 
 -- the new blocks are children in their order, some left out, by whatever does not look at the direction
 module _ {A : Type 0} (f : Block → A) (turn : Block → Turned) (same : (c d : Block) → turn c ≡ T.To d → f d ≡ f c) where
-  one_kept : (c : Block) (t : Turned) → turn c ≡ t → (es : List (Event Block)) (l : List A) → Sublistᴰ (map f (queued_by es)) l → Sublistᴰ (map f (queued_by (turn_event t ∷ es))) (f c ∷ l)
+  one_kept : (c : Block) (t : Turned) → turn c ≡ t → (es : List (Event Block)) (l : List A)
+      → Sublistᴰ (map f (queued_by es)) l → Sublistᴰ (map f (queued_by (turn_event t ∷ es))) (f c ∷ l)
   unfolding queued_by
   one_kept c (T.To d) e es l s = Sublistᴰ.cons-cons (same c d e) s
   one_kept c T.Nowhere e es l s = Sublistᴰ.cons s

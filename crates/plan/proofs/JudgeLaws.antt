@@ -1,70 +1,27 @@
 -- Laws of judging the children: the tests that the code makes, and the passes of the loop. Assumes nothing.
 use mathlib.Core.Path.{◌≡◌, refl, sym, ap, ◌∙◌}
-use mathlib.Core.Bool.{Bool, true, ◌&&◌, ◌||◌}
+use mathlib.Core.Bool.{Bool, ◌&&◌, ◌||◌}
 use mathlib.Core.List.{List, [], ◌∷◌}
 use Prim.Native.Nat.{ℕ, zero, suc, ◌+◌, ◌*◌, ◌≤◌, ◌<◌, min}
 use native.Mathlib.Decide.{dec_le}
 use native.Mathlib.Nat.{add-zero, zero-add}
 use native.Mathlib.Numerals.{add-one}
 use native.Mathlib.Omega.{arith}
-use lib.ListN.{length, get_or, drop, set, drop_of_length-le}
+use lib.ListN.{length, get_or, drop, drop_of_length-le}
 use lib.Seq.{drop-cons}
 use Rattle.base.proofs.Test.{by_test}
-use Rattle.coordinate.specs.declared.Coordinate.{Coordinate}
-use Rattle.image.specs.declared.PixelRange.{PixelRange}
-use Rattle.image.specs.declared.Seen.{Seen}
-use Rattle.image.specs.Range.{rectangle_of}
-use Rattle.image.specs.Painting.{all_true_seen}
 use Rattle.queue.specs.declared.Block.{Block}
-use Rattle.queue.specs.declared.directions.Direction.{Direction}
-use Rattle.queue.specs.declared.directions.DirectionAt.{DirectionAt}
-use Rattle.queue.specs.declared.directions.DirectionAt.TheVariants as A
 use Rattle.decide.specs.declared.Chosen.{Chosen}
 use Rattle.decide.specs.declared.children.Cut.{Cut}
 use Rattle.decide.specs.declared.children.Place.{Place}
 use Rattle.decide.specs.declared.verdict.Outcome.{Outcome}
 use Rattle.decide.specs.ChildAt.{place_of, child_of}
-use Rattle.decide.specs.Verdict.{legal_verdict, outcome_of, cost_of, is_marking, is_incomplete}
+use Rattle.decide.specs.Verdict.{is_incomplete}
 use Rattle.decide.proofs.ChildAtLaws.{child_place}
 use Rattle.decide.proofs.VerdictLaws.{cost_of_child}
 use Rattle.plan.specs.declared.Judged.{Judged}
-use Rattle.plan.specs.AtOnce.{alike_along, is_seen, true_at, outcome_at, outcome_at_once, children_from, children_by, noted}
-use Rattle.plan.specs.PlanComputed.{incomplete_ones, unjudged, judged_by}
-
--- BY THE TESTS THAT THE CODE MAKES
-
-module _ (rank : ℕ) (a : DirectionAt) where
-  pub alike_as : (d e : Direction) → a ≡ A.Along d → d ≡ e → alike_along rank (A.Along e) ≡ alike_along rank a
-  alike_as d e g h = ap (alike_along rank) (sym (g ∙ ap A.Along h))
-
-  pub alike_none : a ≡ A.Beyond → true ≡ alike_along rank a
-  alike_none g = ap (alike_along rank) (sym g)
-
-pub seen_as : (p : Chosen) (x y : Coordinate) (cells : List ℕ) (r : PixelRange) (s v : Seen) → r ≡ rectangle_of x y p.width p.height
-    → s ≡ all_true_seen p.width p.height r cells → s ≡ v → is_seen v ≡ true_at p x y cells
-unfolding true_at
-seen_as p x y cells r s v e f g = ap is_seen (sym g ∙ f) ∙ rw e
-
-pub noted_as : (j : Judged) (i rank v : ℕ) (o : Outcome) (n e : ℕ) (m l : Bool)
-    → n ≡ incomplete_ones o → e ≡ cost_of o → m ≡ is_marking o → l ≡ legal_verdict rank v
-    → record {
-      at = set j.at i (noted o);
-      incomplete = j.incomplete + n;
-      evaluations = j.evaluations + e;
-      marked = j.marked || m;
-      legal = j.legal && l;
-    } ≡ judged_by j i rank v o
-unfolding judged_by
-noted_as j i rank v o n e m l q r s t = rw (q, r, s, t)
-
-module _ (p : Chosen) (same : Bool) (cells : List ℕ) (j : Judged) (x y : Coordinate) (v : ℕ) (t : Bool) (o : Outcome)
-    (is_o : o ≡ outcome_of x.rank v (t || (same && j.marked))) where
-  pub judged_as_lem : (i : ℕ) (r : Judged) → t ≡ true_at p x y cells → r ≡ judged_by j i x.rank v o
-      → r ≡ judged_by j i x.rank v (outcome_at p same cells j.marked x y v)
-  judged_as_lem i r e g = g ∙ rw (is_o, e)
-
-  pub small_as : cost_of o ≤ 6
-  small_as = rw is_o (cost_of_child x.rank v (t || (same && j.marked)))
+use Rattle.plan.specs.AtOnce.{true_at, outcome_at, outcome_at_once, children_from, children_by}
+use Rattle.plan.specs.PlanComputed.{incomplete_ones, judged_by}
 
 pub incomplete_one : (o : Outcome) → incomplete_ones o ≤ 1
 incomplete_one o = by_test (λ n. n ≤ 1) (is_incomplete o) 1 0 (λ e. omega arith) (λ e. omega arith)
@@ -98,25 +55,22 @@ module _ (p : Chosen) (same : Bool) (cells : List ℕ) (k : Cut) (b : Block) (vs
   abbrev pub judged_on : Judged → ℕ → Judged
   judged_on j i = judged_from p same cells j i (drop i (children_by k b)) (drop i vs)
 
-  pub judge_start : (j : Judged) → j ≡ unjudged → judged_on j 0 ≡ judged_from p same cells unjudged 0 (children_by k b) vs
-  judge_start j e = rw e
-
   module _ (j : Judged) (i n : ℕ) (least : n ≡ min (min k.count 4) (length vs)) where
-    pub judge_on : (c : Place) (j' : Judged) → i < n → c ≡ place_of k b.x b.y i
-        → j' ≡ judged_by j i c.x.rank (get_or vs i 0) (outcome_at p same cells j.marked c.x c.y (get_or vs i 0))
+    pub judge_on : (c : Place) (v : ℕ) (j' : Judged) → i < n → v ≡ get_or vs i 0 → c ≡ place_of k b.x b.y i
+        → j' ≡ judged_by j i c.x.rank v (outcome_at p same cells j.marked c.x c.y v)
         → judged_on j' (i + 1) ≡ judged_on j i
     unfolding judged_from
-    judge_on c j' h g e =
+    judge_on c v j' h w g e =
         let q = child_place k b i in
         let x : c.x ≡ (child_of k b i).x = ap (λ (d : Place). d.x) g ∙ sym q.0 in
         let y : c.y ≡ (child_of k b i).y = ap (λ (d : Place). d.y) g ∙ sym q.1 in
         let f : drop i (children_by k b) ≡ child_of k b i ∷ drop (suc i) (children_by k b) =
         from_drop k b i 0 (min k.count 4) (omega arith) ∙ ap (λ (m : ℕ). child_of k b m ∷ drop (suc i) (children_by k b)) (zero-add i) in
         let u : drop i vs ≡ get_or vs i 0 ∷ drop (suc i) vs = drop-cons vs i 0 (omega arith) in
-        rw (add-one i, e, f, u, x, y)
+        rw (add-one i, e, f, u, x, y, w)
 
-    pub judge_end : i ≤ n → n ≤ i → j ≡ judged_on j i
-    judge_end h h' = elim (dec_le (length vs) i) [
+    pub judge_end : n ≤ i → j ≡ judged_on j i
+    judge_end h = elim (dec_le (length vs) i) [
       | yes t ↦ (let e = drop_of_length-le vs {i = i} t in rw e (sym (none (drop i (children_by k b)))))
       | no t ↦ (let l = from_length k b 0 (min k.count 4) in
           let e = drop_of_length-le (children_by k b) {i = i} (omega arith) in rw e (sym (unfold judged_from in refl)))

@@ -1,13 +1,13 @@
 -- What the loop makes is what is remembered of the outcomes, and of a sound block's children these are the outcomes in order. Assumes nothing.
 use mathlib.Core.Path.{◌≡◌, refl, sym, ap, ap₂, ◌∙◌}
 use mathlib.Core.Bool.{Bool, true, false, ◌&&◌, ◌||◌, and_assoc, and-true}
-use mathlib.Core.List.{List, [], ◌∷◌, ◌++◌, map}
+use mathlib.Core.List.{List, [], ◌∷◌, ◌++◌}
 use Prim.Native.Nat.{ℕ, zero, suc, ◌+◌, ◌-◌, ◌*◌, ◌≤◌, ◌<◌, min}
 use native.Mathlib.Omega.{arith}
 use native.Mathlib.Nat.{add-zero, add_assoc, zero-add}
 use lib.ListN.{length, replicate, set, get_or, take}
-use lib.ListN as L
 use lib.Seq.{sets}
+use Rattle.std.proofs.Math.Seq.{take-append_seam}
 use Rattle.base.proofs.Test.{by_test}
 use Rattle.base.specs.Event.{Event, marks, queued_by}
 use Rattle.image.specs.Cell.{meanings}
@@ -23,9 +23,8 @@ use Rattle.decide.specs.Verdict.{legal_verdict, all_legal, cost_of, is_marking}
 use Rattle.decide.proofs.ListingLaws.{children_few}
 use Rattle.decide.proofs.ChildAtLaws.{child_of_lem}
 use Rattle.plan.specs.declared.Judged.{Judged}
-use Rattle.plan.specs.declared.Noted.{Noted}
 use Rattle.plan.specs.Plan.{outcomes, evaluations, incomplete_count, mark_events}
-use Rattle.plan.specs.AtOnce.{alike_along, outcome_at_once, at_once, children_from, children_by, some_marking, noted, judged_as, judged_of}
+use Rattle.plan.specs.AtOnce.{alike_along, outcome_at_once, at_once, children_from, children_by, some_marking, judged_as, judged_of}
 use Rattle.plan.specs.PlanComputed.{incomplete_ones, unjudged, judged_by}
 use Rattle.plan.proofs.InOrder.{at_once_lem}
 use Rattle.plan.proofs.JudgeLaws.{judged_from, from_length}
@@ -34,7 +33,7 @@ use Rattle.plan.proofs.JudgeLaws.{judged_from, from_length}
 
 -- what judging from child i on adds to what was judged
 record Closed (r j : Judged) (i : ℕ) (cs : List Block) (os : List Outcome) (vs : List ℕ) : Type 0 where
-  pub at : r.at ≡ sets j.at i (map noted os)
+  pub at : r.at ≡ sets j.at i os
   pub incomplete : r.incomplete ≡ j.incomplete + incomplete_count os
   pub evaluated : r.evaluations ≡ j.evaluations + evaluations os
   pub marked : r.marked ≡ (j.marked || some_marking os)
@@ -93,7 +92,7 @@ once_few p same cells marked [] vs = omega arith
 once_few p same cells marked (c ∷ cs) [] = omega arith
 once_few p same cells marked (c ∷ cs) (v ∷ vs) = omega (arith, once_few p same cells (marked || is_marking (outcome_at_once p same cells marked c v)) cs vs)
 
-same_judged : (j : Judged) (at : List Noted) (n e : ℕ) (m l : Bool) → j.at ≡ at → j.incomplete ≡ n → j.evaluations ≡ e → j.marked ≡ m → j.legal ≡ l
+same_judged : (j : Judged) (at : List Outcome) (n e : ℕ) (m l : Bool) → j.at ≡ at → j.incomplete ≡ n → j.evaluations ≡ e → j.marked ≡ m → j.legal ≡ l
     → j ≡ record { at = at; incomplete = n; evaluations = e; marked = m; legal = l }
 same_judged j at n e m l a b c d f = rw (sym a, sym b, sym c, sym d, sym f)
 
@@ -106,9 +105,8 @@ judged_made p b k vs cells same j s e =
     let cs = children_by k b in
     let os = at_once p t cells false cs vs in
     let c = judged_closed p t cells unjudged 0 cs vs in
-    let few : length (map noted os) ≤ 4 = rw (L.length-map os noted) (omega (arith, once_few p t cells false cs vs, from_length k b 0 (min k.count 4))) in
-    let at : (judged_from p t cells unjudged 0 cs vs).at ≡ map noted os ++ replicate (4 - length os) (noted O.Skipped) =
-    c.at ∙ sets_first 4 (noted O.Skipped) (map noted os) few ∙ ap (λ (n : ℕ). map noted os ++ replicate (4 - n) (noted O.Skipped)) (L.length-map os noted) in
+    let few : length os ≤ 4 = omega (arith, once_few p t cells false cs vs, from_length k b 0 (min k.count 4)) in
+    let at : (judged_from p t cells unjudged 0 cs vs).at ≡ os ++ replicate (4 - length os) O.Skipped = c.at ∙ sets_first 4 O.Skipped os few in
     e ∙ rw s (same_judged (judged_from p t cells unjudged 0 cs vs) _ _ _ _ _ at (c.incomplete ∙ zero-add (incomplete_count os))
     (c.evaluated ∙ zero-add (evaluations os)) c.marked c.legal)
 
@@ -138,13 +136,9 @@ module _ (p : Chosen) (b : Block) (ok : sound p b ≡ true) where
   judged_in_order vs cells h = rw (cut_children, at_once_lem p b cells vs ok h)
 
 -- each outcome is remembered as it is: skipped and false, area and point stay apart
-pub outcomes_kept : (os : List Outcome) (legal : Bool) → map (λ (e : Noted). e.outcome) (take (length os) (judged_as os legal).at) ≡ os
+pub outcomes_kept : (os : List Outcome) (legal : Bool) → take (length os) (judged_as os legal).at ≡ os
 unfolding judged_as
-outcomes_kept os legal = go os (4 - length os)
-  where
-    go : (os : List Outcome) (n : ℕ) → map (λ (e : Noted). e.outcome) (take (length os) (map noted os ++ replicate n (noted O.Skipped))) ≡ os
-    go [] n = refl
-    go (o ∷ os) n = ap (λ (l : List Outcome). o ∷ l) (go os n)
+outcomes_kept os legal = take-append_seam os (replicate (4 - length os) O.Skipped)
 
 -- marks queue nothing
 pub marks_queue_none : (cs : List Block) (os : List Outcome) (es : List (Event Block)) → queued_by (mark_events cs os ++ es) ≡ queued_by es

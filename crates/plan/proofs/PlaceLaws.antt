@@ -1,5 +1,6 @@
 -- Where the children of a block lie: in its place, or in the quarters of it; which pixels they cover, and which two of them cover together.
 -- Assumes nothing.
+use Rattle.std.specs.Prelude.{Option, Some, None}
 use mathlib.Core.Path.{◌≡◌, refl, sym, ap₂, ◌∙◌}
 use mathlib.Core.Bool.{Bool, true, false, ◌&&◌}
 use mathlib.Core.List.{List, [], ◌∷◌}
@@ -21,8 +22,6 @@ use Rattle.interval.specs.Cuts.{later_cut}
 use Rattle.queue.specs.declared.Block.{Block}
 use Rattle.queue.specs.declared.directions.Direction.{Direction}
 use Rattle.queue.specs.declared.directions.Direction.TheVariants as D
-use Rattle.queue.specs.declared.directions.DirectionAt.{DirectionAt}
-use Rattle.queue.specs.declared.directions.DirectionAt.TheVariants as A
 use Rattle.queue.specs.Block.{is_integer, parameter_of, with_parameter}
 use Rattle.decide.specs.declared.Chosen.{Chosen}
 use Rattle.decide.specs.Damage.{sound, direction_of}
@@ -194,13 +193,13 @@ module _ (p : Chosen) (b : Block) (ok : sound p b ≡ true) where
   cut_lies : (d : Direction) → Every (Lies b) (children_cut b d)
   cut_lies d = every_also (InPlace b) (Lies b) (λ c. stays) (children_cut b d) (cut_in_place b d)
 
-  along_lies : (a : DirectionAt) → direction_of p b ≡ a → Every (Lies b) (children_along p b a)
-  along_lies (A.Along D.XY) e = xy_lies (cut_along p b D.XY ok e refl)
-  along_lies (A.Along D.M) e = cut_lies D.M
-  along_lies (A.Along D.N) e = cut_lies D.N
-  along_lies (A.Along D.Theta) e = cut_lies D.Theta
-  along_lies (A.Along D.T) e = cut_lies D.T
-  along_lies A.Beyond e = (stays record { x = refl; y = refl; dir = refl }, tt)
+  along_lies : (a : Option Direction) → direction_of p b ≡ a → Every (Lies b) (children_along p b a)
+  along_lies (Some D.XY) e = xy_lies (cut_along p b D.XY ok e refl)
+  along_lies (Some D.M) e = cut_lies D.M
+  along_lies (Some D.N) e = cut_lies D.N
+  along_lies (Some D.Theta) e = cut_lies D.Theta
+  along_lies (Some D.T) e = cut_lies D.T
+  along_lies None e = (stays record { x = refl; y = refl; dir = refl }, tt)
 
   -- each child has its parent's place, or is a quarter of it
   pub children_lie : Every (Lies b) (children_of p b)
@@ -222,13 +221,13 @@ module _ (p : Chosen) (b : Block) (ok : sound p b ≡ true) where
   cut_beside : (d : Direction) → Pairs Narrower (children_cut b d)
   cut_beside d = as_pairs b (children_cut b d) (every_also (InPlace b) (CoversAs b) (covers_in_place b) (children_cut b d) (cut_in_place b d))
 
-  along_beside : (a : DirectionAt) → direction_of p b ≡ a → Pairs (Beside (alike_along b.x.rank a)) (children_along p b a)
-  along_beside (A.Along D.XY) e = xy_beside (cut_along p b D.XY ok e refl)
-  along_beside (A.Along D.M) e = cut_beside D.M
-  along_beside (A.Along D.N) e = cut_beside D.N
-  along_beside (A.Along D.Theta) e = cut_beside D.Theta
-  along_beside (A.Along D.T) e = cut_beside D.T
-  along_beside A.Beyond e = (tt, tt)
+  along_beside : (a : Option Direction) → direction_of p b ≡ a → Pairs (Beside (alike_along b.x.rank a)) (children_along p b a)
+  along_beside (Some D.XY) e = xy_beside (cut_along p b D.XY ok e refl)
+  along_beside (Some D.M) e = cut_beside D.M
+  along_beside (Some D.N) e = cut_beside D.N
+  along_beside (Some D.Theta) e = cut_beside D.Theta
+  along_beside (Some D.T) e = cut_beside D.T
+  along_beside None e = (tt, tt)
 
   -- the children cover all the same pixels, or no two of them cover a pixel together
   pub children_beside : Pairs (Beside (alike p b)) (children_of p b)

@@ -1,5 +1,6 @@
 -- A child that finds a direction differs from itself in the direction byte alone and is undamaged; one that finds none lies where its parent lies,
 -- for all cells. Assumes nothing.
+use Rattle.std.specs.Prelude.{Option, Some, None}
 use mathlib.Core.Path.{◌≡◌, refl, sym, ap, ◌∙◌}
 use mathlib.Core.Bool.{Bool, true, false, cond, false≢true}
 use mathlib.Core.List.{List, ◌∷◌}
@@ -19,15 +20,11 @@ use Rattle.image.specs.Range.{rectangle_of}
 use Rattle.queue.specs.declared.Block.{Block}
 use Rattle.queue.specs.declared.directions.Direction.{Direction}
 use Rattle.queue.specs.declared.directions.Direction.TheVariants as D
-use Rattle.queue.specs.declared.directions.DirectionAt.{DirectionAt}
-use Rattle.queue.specs.declared.directions.DirectionAt.TheVariants as A
 use Rattle.queue.specs.Directions.{in_use, used_of, directions, parameters, direction_at}
 use Rattle.queue.specs.DirectionsComputed.{ones}
 use Rattle.queue.proofs.DirectionLaws.{used_length, at_first}
 use Rattle.queue.proofs.RoundTrip.{CanQueue}
 use Rattle.decide.specs.declared.Chosen.{Chosen}
-use Rattle.decide.specs.declared.turn.Found.{Found}
-use Rattle.decide.specs.declared.turn.Found.TheVariants as F
 use Rattle.decide.specs.Turn as T
 use Rattle.decide.specs.Damage.{undamaged, sound, direction_of, direction_right}
 use Rattle.decide.specs.Children.{quarters_of, begins_inside, kept_inside, children_xy, children_cut, children_along, children_of}
@@ -40,13 +37,13 @@ use Rattle.plan.proofs.ChildLaws.{ChildPlace, Fine, fine_parameters, direction_i
 -- FOUND
 
 -- what a search finds can be cut along
-search_splits : (ds : List Direction) (c : Block) (n at k : ℕ) → searched_from ds c n at ≡ F.At k → subdivisible_along c (direction_at ds k) ≡ true
+search_splits : (ds : List Direction) (c : Block) (n at k : ℕ) → searched_from ds c n at ≡ Some k → subdivisible_along c (direction_at ds k) ≡ true
 unfolding searched_from
 search_splits ds c zero at k e = let z : ◌≡◌ {A = ℕ} 0 1 = cc in absurd (omega arith)
 search_splits ds c (suc n) at k e = go (subdivisible_along c (direction_at ds (at % length ds))) refl (search_splits ds c n (at + 1) k) e
   where
-    go : (t : Bool) → subdivisible_along c (direction_at ds (at % length ds)) ≡ t → (searched_from ds c n (at + 1) ≡ F.At k → subdivisible_along c (direction_at ds k) ≡ true)
-        → cond t (F.At (at % length ds)) (searched_from ds c n (at + 1)) ≡ F.At k → subdivisible_along c (direction_at ds k) ≡ true
+    go : (t : Bool) → subdivisible_along c (direction_at ds (at % length ds)) ≡ t → (searched_from ds c n (at + 1) ≡ Some k → subdivisible_along c (direction_at ds k) ≡ true)
+        → cond t (Some (at % length ds)) (searched_from ds c n (at + 1)) ≡ Some k → subdivisible_along c (direction_at ds k) ≡ true
     go true f ih g = let h : at % length ds ≡ k = cc in rw (← h) f
     go false f ih g = ih g
 
@@ -59,21 +56,21 @@ pub turns : (p : Chosen) (b : Block) (n : ℕ) (c d : Block) → turned p b n c 
 unfolding turned
 turns p b n c d e = go (searched p c (start_of p b n)) refl e
   where
-    go : (f : Found) → searched p c (start_of p b n) ≡ f → turned_by c f ≡ T.To d → TurnsTo p c d
-    go (F.At k) g h =
+    go : (f : Option ℕ) → searched p c (start_of p b n) ≡ f → turned_by c f ≡ T.To d → TurnsTo p c d
+    go (Some k) g h =
         let s : turned_to c k ≡ d = cc in
         let t = search_splits (directions p.set) c (length (directions p.set)) (start_of p b n) k g in
         record { same = rw (← s); splits = rw (← s) t }
-    go F.Nothing g h = let z : ◌≡◌ {A = ℕ} 0 1 = cc in absurd (omega arith)
+    go None g h = let z : ◌≡◌ {A = ℕ} 0 1 = cc in absurd (omega arith)
 
 -- so its direction is right
-way_right : (p : Chosen) (c d : Block) (a : DirectionAt) → d.x ≡ c.x → subdivisible_along c a ≡ true → direction_right p d a ≡ true
-way_right p c d (A.Along D.XY) e s = rw e s
-way_right p c d (A.Along D.M) e s = refl
-way_right p c d (A.Along D.N) e s = refl
-way_right p c d (A.Along D.Theta) e s = refl
-way_right p c d (A.Along D.T) e s = refl
-way_right p c d A.Beyond e s = absurd (false≢true s)
+way_right : (p : Chosen) (c d : Block) (a : Option Direction) → d.x ≡ c.x → subdivisible_along c a ≡ true → direction_right p d a ≡ true
+way_right p c d (Some D.XY) e s = rw e s
+way_right p c d (Some D.M) e s = refl
+way_right p c d (Some D.N) e s = refl
+way_right p c d (Some D.Theta) e s = refl
+way_right p c d (Some D.T) e s = refl
+way_right p c d None e s = absurd (false≢true s)
 
 -- and it is undamaged, in the same picture
 pub turned_undamaged : (p : Chosen) (b c d : Block) → ChildPlace p b c → LegalParameters c → TurnsTo p c d → undamaged p d ≡ true
@@ -106,13 +103,13 @@ turned_can_queue p c d q t = rw t.same record { x = q.x; y = q.y; fine = fine }
 -- NOT FOUND
 
 -- a search that finds nothing has tried each place on its way
-search_tried : (ds : List Direction) (c : Block) (n at : ℕ) → searched_from ds c n at ≡ F.Nothing → (j : ℕ) → j < n → subdivisible_along c (direction_at ds ((at + j) % length ds)) ≡ false
+search_tried : (ds : List Direction) (c : Block) (n at : ℕ) → searched_from ds c n at ≡ None → (j : ℕ) → j < n → subdivisible_along c (direction_at ds ((at + j) % length ds)) ≡ false
 unfolding searched_from
 search_tried ds c zero at e j h = absurd (omega arith)
 search_tried ds c (suc n) at e j h = go (subdivisible_along c (direction_at ds (at % length ds))) refl e j h (search_tried ds c n (at + 1))
   where
-    go : (t : Bool) → subdivisible_along c (direction_at ds (at % length ds)) ≡ t → cond t (F.At (at % length ds)) (searched_from ds c n (at + 1)) ≡ F.Nothing → (j : ℕ) → j < suc n
-        → (searched_from ds c n (at + 1) ≡ F.Nothing → (i : ℕ) → i < n → subdivisible_along c (direction_at ds ((at + 1 + i) % length ds)) ≡ false)
+    go : (t : Bool) → subdivisible_along c (direction_at ds (at % length ds)) ≡ t → cond t (Some (at % length ds)) (searched_from ds c n (at + 1)) ≡ None → (j : ℕ) → j < suc n
+        → (searched_from ds c n (at + 1) ≡ None → (i : ℕ) → i < n → subdivisible_along c (direction_at ds ((at + 1 + i) % length ds)) ≡ false)
         → subdivisible_along c (direction_at ds ((at + j) % length ds)) ≡ false
     go true f g j h ih = let z : ◌≡◌ {A = ℕ} 0 1 = cc in absurd (omega arith)
     go false f g zero h ih = let e : at + 0 ≡ at = omega arith in rw e f
@@ -137,13 +134,14 @@ round at t n h =
     ]
 
 -- a child that finds no direction can be cut along none of those in use
-pub nowhere_none : (p : Chosen) (b : Block) (n : ℕ) (c : Block) → turned p b n c ≡ T.Nowhere → (t : ℕ) → t < length (directions p.set) → subdivisible_along c (direction_at (directions p.set) t) ≡ false
+pub nowhere_none : (p : Chosen) (b : Block) (n : ℕ) (c : Block) → turned p b n c ≡ T.Nowhere
+    → (t : ℕ) → t < length (directions p.set) → subdivisible_along c (direction_at (directions p.set) t) ≡ false
 unfolding turned
 nowhere_none p b n c e t h = go (searched p c (start_of p b n)) refl e
   where
-    go : (f : Found) → searched p c (start_of p b n) ≡ f → turned_by c f ≡ T.Nowhere → subdivisible_along c (direction_at (directions p.set) t) ≡ false
-    go (F.At k) f g = let z : ◌≡◌ {A = ℕ} 0 1 = cc in absurd (omega arith)
-    go F.Nothing f g =
+    go : (f : Option ℕ) → searched p c (start_of p b n) ≡ f → turned_by c f ≡ T.Nowhere → subdivisible_along c (direction_at (directions p.set) t) ≡ false
+    go (Some k) f g = let z : ◌≡◌ {A = ℕ} 0 1 = cc in absurd (omega arith)
+    go None f g =
         let r = round (start_of p b n) t (length (directions p.set)) h in
         rw r.2 at (search_tried (directions p.set) c (length (directions p.set)) (start_of p b n) f r.0 r.1)
 
@@ -152,7 +150,7 @@ pub nowhere_floor : (p : Chosen) (b : Block) (n : ℕ) (c : Block) → in_use p.
 unfolding directions
 nowhere_floor p b n c u e =
     let o : 1 ≡ ones (in_use p.set D.XY) = rw u in
-    let a : direction_at (used_of p.set (D.XY ∷ parameters)) 0 ≡ A.Along D.XY = at_first p.set D.XY parameters 0 1 o (omega arith) in
+    let a : direction_at (used_of p.set (D.XY ∷ parameters)) 0 ≡ Some D.XY = at_first p.set D.XY parameters 0 1 o (omega arith) in
     let l : 0 < length (used_of p.set (D.XY ∷ parameters)) = omega (arith, used_length p.set D.XY parameters) in
     ltb-false 16 c.x.rank (sym (ap (subdivisible_along c) a) ∙ nowhere_none p b n c e 0 l)
 
@@ -173,7 +171,7 @@ module _ (p : Chosen) (b : Block) (n : ℕ) (ok : sound p b ≡ true) where
   abbrev pub SameRectangle : Block → Type 0
   SameRectangle c = turned p b n c ≡ T.Nowhere → rectangle_of c.x c.y p.width p.height ≡ rectangle_of b.x b.y p.width p.height
 
-  xy_nowhere : direction_of p b ≡ A.Along D.XY → Every SameRectangle (children_xy p b)
+  xy_nowhere : direction_of p b ≡ Some D.XY → Every SameRectangle (children_xy p b)
   unfolding children_xy
   xy_nowhere e =
       let u = direction_in_use p b D.XY e in
@@ -192,13 +190,13 @@ module _ (p : Chosen) (b : Block) (n : ℕ) (ok : sound p b ≡ true) where
   cut_nowhere : (d : Direction) → Every SameRectangle (children_cut b d)
   cut_nowhere d = every_also (InPlace b) SameRectangle (λ c i t. rw (i.x, i.y)) (children_cut b d) (cut_in_place b d)
 
-  along_nowhere : (a : DirectionAt) → direction_of p b ≡ a → Every SameRectangle (children_along p b a)
-  along_nowhere (A.Along D.XY) e = xy_nowhere e
-  along_nowhere (A.Along D.M) e = cut_nowhere D.M
-  along_nowhere (A.Along D.N) e = cut_nowhere D.N
-  along_nowhere (A.Along D.Theta) e = cut_nowhere D.Theta
-  along_nowhere (A.Along D.T) e = cut_nowhere D.T
-  along_nowhere A.Beyond e = ((λ t. refl), tt)
+  along_nowhere : (a : Option Direction) → direction_of p b ≡ a → Every SameRectangle (children_along p b a)
+  along_nowhere (Some D.XY) e = xy_nowhere e
+  along_nowhere (Some D.M) e = cut_nowhere D.M
+  along_nowhere (Some D.N) e = cut_nowhere D.N
+  along_nowhere (Some D.Theta) e = cut_nowhere D.Theta
+  along_nowhere (Some D.T) e = cut_nowhere D.T
+  along_nowhere None e = ((λ t. refl), tt)
 
   pub nowhere_same : Every SameRectangle (children_of p b)
   unfolding children_of

@@ -2,16 +2,14 @@
 -- Of a sound block's children these are the outcomes of one child after the other (the law `judged_in_order`): children of one step cover
 -- all the same pixels, or no two of them cover a pixel together. As a contract this would have to require that the cut is the block's
 -- own, and that there is a cell for each pixel.
-use Rattle.std.specs.Prelude.{Bool, true, false, ◌&&◌, ◌||◌, List, [], ◌∷◌, ◌++◌, map, ℕ, zero, suc, ◌-◌, min, leb, length, replicate}
+use Rattle.std.specs.Prelude.{Bool, true, false, ◌&&◌, ◌||◌, List, [], ◌∷◌, ◌++◌, ℕ, zero, suc, ◌-◌, min, leb, length, replicate, Option, Some, None}
+use Rattle.std.specs.Option.{unwrap_or}
 use Rattle.coordinate.specs.declared.Coordinate.{Coordinate}
-use Rattle.image.specs.declared.Seen.{Seen}
-use Rattle.image.specs.declared.Seen.TheVariants as S
 use Rattle.image.specs.Range.{rectangle_of}
 use Rattle.image.specs.Painting.{all_true_seen}
 use Rattle.queue.specs.declared.Block.{Block}
 use Rattle.queue.specs.declared.directions.Direction.TheVariants as D
-use Rattle.queue.specs.declared.directions.DirectionAt.{DirectionAt}
-use Rattle.queue.specs.declared.directions.DirectionAt.TheVariants as A
+use Rattle.queue.specs.declared.directions.Direction.{Direction}
 use Rattle.decide.specs.declared.Chosen.{Chosen}
 use Rattle.decide.specs.declared.children.Cut.{Cut}
 use Rattle.decide.specs.declared.verdict.Outcome.{Outcome}
@@ -20,29 +18,23 @@ use Rattle.decide.specs.Damage.{direction_of}
 use Rattle.decide.specs.ChildAt.{child_of}
 use Rattle.decide.specs.Verdict.{all_legal, outcome_of, is_marking}
 use Rattle.plan.specs.declared.Judged.{Judged}
-use Rattle.plan.specs.declared.Noted.{Noted}
 use Rattle.plan.specs.Plan.{evaluations, incomplete_count}
 
 -- do the children cover all the same pixels? Not the quarters above level 0
-abbrev pub alike_along : ℕ → DirectionAt → Bool
-alike_along rank (A.Along D.XY) = leb rank 48
-alike_along rank (A.Along D.M) = true
-alike_along rank (A.Along D.N) = true
-alike_along rank (A.Along D.Theta) = true
-alike_along rank (A.Along D.T) = true
-alike_along rank A.Beyond = true
+abbrev pub alike_along : ℕ → Option Direction → Bool
+alike_along rank (Some D.XY) = leb rank 48
+alike_along rank (Some D.M) = true
+alike_along rank (Some D.N) = true
+alike_along rank (Some D.Theta) = true
+alike_along rank (Some D.T) = true
+alike_along rank None = true
 
 abbrev pub alike : Chosen → Block → Bool
 alike p b = alike_along b.x.rank (direction_of p b)
 
 -- is every cell True that a block at these coordinates covers? Where the cells are fewer than the pixels nothing is seen
-abbrev pub is_seen : Seen → Bool
-is_seen S.Yes = true
-is_seen S.No = false
-is_seen S.Outside = false
-
 unfoldable pub true_at : Chosen → Coordinate → Coordinate → List ℕ → Bool
-true_at p x y cells = is_seen (all_true_seen p.width p.height (rectangle_of x y p.width p.height) cells)
+true_at p x y cells = unwrap_or (all_true_seen p.width p.height (rectangle_of x y p.width p.height) cells) false
 
 -- the outcome of a child, where `marked` says that a child before it marks
 abbrev pub outcome_at : Chosen → Bool → List ℕ → Bool → Coordinate → Coordinate → ℕ → Outcome
@@ -72,14 +64,10 @@ unfoldable pub some_marking : List Outcome → Bool
 some_marking [] = false
 some_marking (o ∷ os) = is_marking o || some_marking os
 
--- an outcome as it is remembered
-abbrev pub noted : Outcome → Noted
-noted o = record { outcome = o }
-
 -- what is remembered of outcomes: in order, Skipped in the places behind them, and what is counted of them
 unfoldable pub judged_as : List Outcome → Bool → Judged
 judged_as os legal = record {
-  at = map noted os ++ replicate (4 - length os) (noted O.Skipped);
+  at = os ++ replicate (4 - length os) O.Skipped;
   incomplete = incomplete_count os;
   evaluations = evaluations os;
   marked = some_marking os;

@@ -13,10 +13,12 @@ use lib.Ieee.Bits.{of_bits-fits}
 use lib.ListN.{length, drop, get_or, length-append, length-replicate, length-map}
 use lib.Seq.{get_or-append-add}
 use borrow.Author.Tests.{le-leb, ltb-false, not-true}
+use Rattle.std.specs.Prelude.{Result, Ok, Err}
 use Rattle.base.proofs.Test.{cases, and_left, and_right, by_test}
 use Rattle.base.specs.Lists.{Every}
 use Rattle.base.proofs.ListLaws.{every_also}
 use Rattle.refusal.specs.declared.Refusal.TheVariants as R
+use Rattle.refusal.specs.declared.Refusal.{Refusal}
 use Rattle.interval.specs.Bounds.{InFormat}
 use Rattle.image.specs.declared.Reading.{Reading}
 use Rattle.image.specs.declared.Reading.TheVariants as Reads
@@ -39,11 +41,8 @@ use Rattle.queue.proofs.KeptLaws.{known_after, known_start}
 use Rattle.decide.specs.declared.Chosen.{Chosen}
 use Rattle.decide.specs.Damage.{legal_side}
 use Rattle.implicit.specs.declared.state.Ranges.{Ranges}
-use Rattle.implicit.specs.declared.state.SetupAnswer.{SetupAnswer}
-use Rattle.implicit.specs.declared.state.SetupAnswer.TheVariants as S
 use Rattle.implicit.specs.declared.state.State.{State}
 use Rattle.implicit.specs.declared.state.Tally.{Tally}
-use Rattle.implicit.specs.declared.state.CountsAnswer.TheVariants as C
 use Rattle.implicit.specs.Record.{pixel_count, pixel_cells}
 use Rattle.implicit.specs.Setup.{cleared, ranges_legal, first_blocks, first_bytes, setup_refusal, start_record, setup_answer, ring_begun, cells_begun}
 use Rattle.implicit.specs.Step.{World, world_of}
@@ -122,7 +121,7 @@ module _ (a : Asked) {w : World} (z : BegunAs a w) (budget : ℕ) (tape : List �
       rw (k.record_is_sound, le-leb (pixel_count w.state.chosen) (length w.cells) k.enough)
 
   counts_known : (e : RunEnd) → run_of budget w tape ≡ has_run e
-      → counts_answer e.world.state e.world.cells ≡ C.Of (counts_of e.world.state e.world.cells)
+      → counts_answer e.world.state e.world.cells ≡ Ok (counts_of e.world.state e.world.cells)
   counts_known e h =
       let k = steps_reached a.chosen (begun_reached a w z) (run_reaches budget w tape e h).0 in
       counts_answered e.world k.blocks k.keeps
@@ -134,7 +133,7 @@ abbrev pub asked_in : List ℕ → List ℕ → List ℕ → Asked
 asked_in s ring cells = record { chosen = cleared (order_in s).chosen; ranges = (order_in s).ranges; ring = ring; cells = cells }
 
 -- what it answers
-abbrev pub answer_to : Asked → SetupAnswer
+abbrev pub answer_to : Asked → Result State Refusal
 answer_to a = setup_answer a.chosen a.ranges (length a.ring) (length a.cells)
 
 -- the record, ring and cells that it leaves if it is accepted
@@ -148,8 +147,8 @@ chart_at e = chart_text e.world.state e.world.cells e.steps e.evaluations e.endi
 -- the three texts of a sheet whose setup is called with `a`: a refusal by 1 or by 3, which is the setup's, or, the setup accepted, the chart of the run
 -- from what it leaves, by the sheet's budget and tape
 pub data Prints (s : List ℕ) (a : Asked) : List ℕ → Type 0 where
-  prints_1 : answer_to a ≡ S.Refused R.Side → Prints s a (refused_text R.Side)
-  prints_3 : answer_to a ≡ S.Refused R.Parameter → Prints s a (refused_text R.Parameter)
+  prints_1 : answer_to a ≡ Err R.Side → Prints s a (refused_text R.Side)
+  prints_3 : answer_to a ≡ Err R.Parameter → Prints s a (refused_text R.Parameter)
   prints_chart : BegunAs a (begun_by a) → (e : RunEnd) → run_of (order_in s).budget (begun_by a) (drop (order_in s).tape s) ≡ has_run e → Prints s a (chart_at e)
 
 -- whatever the ring and the cells held
@@ -158,7 +157,7 @@ module _ (s ring cells : List ℕ) (taken : taken_sheet s ≡ true) (nr : length
   a = asked_in s ring cells
 
   -- an accepted setup
-  run_prints : answer_to a ≡ S.Ready (begun_by a).state → Prints s a (ran_text (run_of (order_in s).budget (begun_by a) (drop (order_in s).tape s)))
+  run_prints : answer_to a ≡ Ok (begun_by a).state → Prints s a (ran_text (run_of (order_in s).budget (begun_by a) (drop (order_in s).tape s)))
   unfolding order_in
   run_prints f =
       let z : BegunAs a (begun_by a) = record { accepted = ap setup_number f; state = ap setup_state f; ring = refl; cells = refl; held = ranges_held s (sheet_set s) } in
@@ -174,10 +173,10 @@ module _ (s ring cells : List ℕ) (taken : taken_sheet s ≡ true) (nr : length
       let c₁ = le-leb (pixel_count p) (length cells) (omega (arith, few_pixels s taken h, nc)) in
       cases (ranges_legal p.set r) (λ ok.
       let c₂ = le-leb (length (first_bytes p r)) (length ring) (omega (arith, first_few p r (ranges_held s (sheet_set s)) ok, nr)) in
-      let f : answer_to a ≡ S.Ready (begun_by a).state = rw (h, c₁, ok, c₂) in
+      let f : answer_to a ≡ Ok (begun_by a).state = rw (h, c₁, ok, c₂) in
       rw f (run_prints f))
-      (λ no. (let f : answer_to a ≡ S.Refused R.Parameter = rw (h, c₁, no) in rw f (prints_3 f))))
-      (λ h. (let f : answer_to a ≡ S.Refused R.Side = rw h in rw f (prints_1 f)))
+      (λ no. (let f : answer_to a ≡ Err R.Parameter = rw (h, c₁, no) in rw f (prints_3 f))))
+      (λ h. (let f : answer_to a ≡ Err R.Side = rw h in rw f (prints_1 f)))
 
 -- A SHEET THAT IS TAKEN prints one of the three, on a fresh ring and fresh cells
 pub taken_prints : (s : List ℕ) → taken_sheet s ≡ true → Prints s (asked_in s fresh_ring fresh_cells) (text_of s)
@@ -220,7 +219,7 @@ question_uncertain Reads.False e = absurd (omega (arith, e))
 question_uncertain Reads.Uncertain e = refl
 question_uncertain Reads.True e = absurd (omega (arith, e))
 
-same_counts : {t n : Tally} → C.Of t ≡ C.Of n → t ≡ n
+same_counts : {t n : Tally} → ◌≡◌ {A = Result Tally Refusal} (Ok t) (Ok n) → t ≡ n
 same_counts e = cc
 
 module _ (a : Asked) {w : World} (z : BegunAs a w) (budget : ℕ) (tape : List ℕ) (e : RunEnd) (h : run_of budget w tape ≡ has_run e) where

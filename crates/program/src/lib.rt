@@ -4,11 +4,11 @@
 // they give and hold. A file, a terminal and a pipe do not; what the programs do on files is played by `replay_sheets`.
 #![tactic(auto)]
 
-ghost use Rattle.std.specs.Prelude.{◌≡◌, ◌++◌, ◌≤◌, ◌<◌, length, take, drop, IfOk, OnOk, OnErr};
+ghost use Rattle.std.specs.Prelude.{◌≡◌, List, ℕ, ◌++◌, ◌≤◌, ◌<◌, length, take, drop, IfOk, OnOk, OnErr};
 ghost use Rattle.std.specs.Io.KnownBytes.{Appends, Consumes, IsAtEnd};
 ghost use Rattle.sheet.specs.Printed.{text_of};
 ghost use Rattle.sheet.specs.Why.{why_of};
-ghost use Rattle.program.specs.Unsaid.{IsCut, Unsaid};
+ghost use Rattle.program.specs.Unsaid.{Unsaid};
 
 use std::io;
 use std::io::{Read, Write};
@@ -20,25 +20,58 @@ pub struct Charted {
     pub written: usize,
 }
 
-// The text of a buffer's first bytes, as `chart_sheet` puts it.
-fn chart_first(sheet: &[u8], n: usize, text: &mut [u8; 8704]) -> usize
-    requires { n ≤ length sheet.now }
-    ensures value { result ≡ length (text_of (take n sheet.now)) }
-    ensures text_after { text.new ≡ text_of (take n sheet.now) ++ drop result text.old }
-    ensures upper_bound { result ≤ length text.new }
-{
-    sheet::chart_sheet(&sheet[0..n], text)
+// What a program makes of the bytes that it reads: a text of at most N bytes.
+trait Prints<const N: usize> {
+    ghost printed: { List ℕ → List ℕ };
+
+    fn print(asked: &[u8], text: &mut [u8; N]) -> usize
+        ensures value { result ≡ length (printed asked.now) }
+        ensures text_after { text.new ≡ printed asked.now ++ drop (length (printed asked.now)) text.old }
+        ensures upper_bound { result ≤ N };
 }
 
-// Writes a buffer's first bytes, and answers how many.
-fn write_first<W: Write>(output: &mut W, text: &[u8], n: usize) -> io::Result<usize>
-    requires { n ≤ length text.now }
-    ensures value { IfOk result (λ m. m ≡ n) }
-    ensures bytes { OnOk result (Appends (W.contents output.old) (W.contents output.new) (take n text.now)) }
-    ensures err { OnErr result (IsCut (take n text.now) (W.contents output.old) (W.contents output.new)) }
+// The chart of a sheet.
+struct SheetChart;
+
+impl Prints<8704> for SheetChart {
+    ghost printed = { text_of };
+
+    fn print(asked: &[u8], text: &mut [u8; 8704]) -> usize {
+        sheet::chart_sheet(asked, text)
+    }
+}
+
+// The reason that a question asks for.
+struct PixelReason;
+
+impl Prints<160> for PixelReason {
+    ghost printed = { why_of };
+
+    fn print(asked: &[u8], text: &mut [u8; 160]) -> usize {
+        sheet::explain_sheet(asked, text)
+    }
+}
+
+// Reads what there is room for, and writes the answer to it.
+fn read_and_write<P: Prints<N>, R: Read, W: Write, const M: usize, const N: usize>(
+    input: &mut R,
+    output: &mut W,
+    asked: &mut [u8; M],
+    text: &mut [u8; N],
+) -> io::Result<Charted>
+    ensures read_in_bounds { IfOk result (λ done. done.read ≤ length asked.new) }
+    ensures written_value { IfOk result (λ done. done.written ≡ length (P.printed (take done.read asked.new))) }
+    ensures text_after { IfOk result (λ done. text.new ≡ P.printed (take done.read asked.new) ++ drop done.written text.old) }
+    ensures bytes_read { IfOk result (λ done. Consumes (R.remaining input.old) (R.remaining input.new) (take done.read asked.new)) }
+    ensures all_read { IfOk result (λ done. done.read < length asked.new → IsAtEnd (R.remaining input.new)) }
+    ensures bytes_written { IfOk result (λ done. Appends (W.contents output.old) (W.contents output.new) (P.printed (take done.read asked.new))) }
+    ensures err { OnErr result (Unsaid P.printed asked.new (R.remaining input.old) (R.remaining input.new)
+        text.old text.new (W.contents output.old) (W.contents output.new)) }
 {
-    stream::write_full(output, &text[0..n])?;
-    Ok(n)
+    let read = stream::read_full(input, asked)?;
+    let written = P::print(&asked[..read], text);
+    stream::write_full(output, &text[..written])?;
+    Ok(Charted { read, written })
 }
 
 // Charts the sheet that a reader gives, and writes the text to a writer. One byte more than a sheet may have is read, so that one too many is seen. A read
@@ -58,20 +91,7 @@ pub fn chart<R: Read, W: Write>(
     ensures err { OnErr result (Unsaid text_of sheet.new (R.remaining input.old) (R.remaining input.new)
         text.old text.new (W.contents output.old) (W.contents output.new)) }
 {
-    let read = stream::read_full(input, sheet)?;
-    let written = chart_first(sheet, read, text);
-    write_first(output, text, written)?;
-    Ok(Charted { read, written })
-}
-
-// The answer to the question in a buffer's first bytes, as `explain_sheet` puts it.
-fn explain_first(question: &[u8], n: usize, text: &mut [u8; 160]) -> usize
-    requires { n ≤ length question.now }
-    ensures value { result ≡ length (why_of (take n question.now)) }
-    ensures text_after { text.new ≡ why_of (take n question.now) ++ drop result text.old }
-    ensures upper_bound { result ≤ length text.new }
-{
-    sheet::explain_sheet(&question[0..n], text)
+    read_and_write::<SheetChart, R, W, 16385, 8704>(input, output, sheet, text)
 }
 
 // Answers the question that a reader gives, the column and the row of a pixel, four bytes each, and then a sheet, and writes the answer to a writer. As
@@ -91,8 +111,5 @@ pub fn why<R: Read, W: Write>(
     ensures err { OnErr result (Unsaid why_of question.new (R.remaining input.old) (R.remaining input.new)
         text.old text.new (W.contents output.old) (W.contents output.new)) }
 {
-    let read = stream::read_full(input, question)?;
-    let written = explain_first(question, read, text);
-    write_first(output, text, written)?;
-    Ok(Charted { read, written })
+    read_and_write::<PixelReason, R, W, 16393, 160>(input, output, question, text)
 }

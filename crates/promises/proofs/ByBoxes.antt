@@ -81,10 +81,10 @@ module _ (M : Measures) (plot : Plot) (Relation : (u v : Ratio) → Mix M → Ty
 
   none_in_box : (b : Block) → NoneInBox M plot Relation b → NoneIn (covers_in p) (question_of M p r Solves) b
   unfolding NoneInBox NoneIn Holds
-  none_in_box b (kind, e, x, y, answer, none) a q given at (held, covered) =
-      let P = points_enclosed plot kind b.x b.y e x y answer in
-      let l = box_placed plot kind b.x b.y e x y answer in
-      let levels = box_levels plot kind b.x b.y e x y answer in
+  none_in_box b (kind, k, answer, none) a q given at (held, covered) =
+      let P = points_enclosed plot kind b.x b.y k answer in
+      let l = box_placed plot kind b.x b.y k answer in
+      let levels = box_levels plot kind b.x b.y k answer in
       let u = E.across a.x in
       let v = E.up a.y in
       let hx = E.lies_across b.x.index b.x.rank a.x held.0.0 in

@@ -14,7 +14,8 @@ use Rattle.interval.specs.Next.{next_below, next_above}
 use Rattle.coordinate.specs.Axis.{in_range, places, inside}
 use Rattle.boxes.specs.declared.Plot.{Plot}
 use Rattle.boxes.specs.declared.Edges.{Edges}
-use Rattle.boxes.specs.declared.BoxAnswer.TheVariants as B
+use Rattle.std.specs.Prelude.{Ok}
+use Rattle.boxes.specs.declared.BlockBox.{BlockBox}
 use Rattle.boxes.specs.declared.transformation.MapKind.TheVariants as K
 use Rattle.boxes.specs.Arithmetic.{least_of, greatest_of, around, plus, negative, minus, times, over}
 use Rattle.boxes.specs.Maps.{slope_of, map_of, image_of}
@@ -84,7 +85,10 @@ right_x = bounds 0x3feffffffffffffa 0x4000000000000005
 abbrev right_y : Interval
 right_y = bounds 0x8000000000000004 0x3ff0000000000005
 
-right_box : box_of two_pixels K.Quick (pixel_at 1).x (pixel_at 1).y ≡ B.Box right_edges right_x right_y
+abbrev right_found : BlockBox
+right_found = record { edges = right_edges; x = right_x; y = right_y }
+
+right_box : box_of two_pixels K.Quick (pixel_at 1).x (pixel_at 1).y ≡ Ok right_found
 unfolding box_of box_along low_end high_end middle_of low_edge high_edge axis_map point_at in_pixels image_of map_of slope_of over times minus negative plus around
     greatest_of least_of next_below next_above put_interval zero_as legal_interval whole_bound in_units rounded half_sum kind_of middle_at in_range places inside of_bits to_bits
     of_fields add mul div neg lt le eq round sum units odd size span climb
@@ -97,7 +101,7 @@ left_bound u h k = ⊑_trans (of_units (in_units right_edges.left.lower)) u half
 
 pub right_judged : NoneInBox exactly two_pixels Low (pixel_at 1)
 unfolding NoneInBox
-right_judged = (K.Quick, right_edges, right_x, right_y, right_box, λ u v a h k held. left_bound u h.0)
+right_judged = (K.Quick, right_found, right_box, λ u v a h k held. left_bound u h.0)
 
 -- the plot's edges stand where they are given, at 0 and 2 and at 0 and 1, and it is a plot of the chart of two pixels
 pub two_stand : PlotStands two_pixels
@@ -124,8 +128,8 @@ corner_held = (inr (tt, tt), inr (tt, tt), inr (tt, tt), (tt, tt))
 
 pub left_not_judged : ¬ NoneInBox exactly two_pixels Low (pixel_at 0)
 unfolding NoneInBox two_stand
-left_not_judged (kind, e, x, y, answer, none) =
-    let P = points_enclosed two_pixels kind (pixel_at 0).x (pixel_at 0).y e x y answer in
+left_not_judged (kind, k, answer, none) =
+    let P = points_enclosed two_pixels kind (pixel_at 0).x (pixel_at 0).y k answer in
     let u = mapped_to (x_axis two_pixels) (whole_ratio 0) (whole_ratio 2) (whole_ratio 0) in
     let v = mapped_to (y_axis two_pixels) (whole_ratio 0) (whole_ratio 1) (whole_ratio 0) in
     none u v corner (P.0 (whole_ratio 0) (whole_ratio 2) (whole_ratio 0) two_stand.left_right tt tt tt)

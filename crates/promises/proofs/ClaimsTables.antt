@@ -8,6 +8,7 @@ use native.Mathlib.Omega.{arith}
 use lib.Count.{count_trailing_zeros}
 use lib.ListN.{get_or}
 use lib.Ieee.{fits, le}
+use Rattle.std.specs.Prelude.{Ok, Err}
 use Rattle.refusal.specs.declared.Refusal.TheVariants as R
 use Rattle.small.specs.Small.{tail_of, code_of, small_code, read_behind, read_small}
 use Rattle.base.specs.Bytes.{little_endian, of_little_endian}
@@ -32,7 +33,6 @@ use Rattle.decide.specs.Children.{quarters_of, kept_inside, children_xy, childre
 use Rattle.decide.specs.Verdict.{legal_verdict, all_legal, undecided_outcome, verdict_outcome}
 use Rattle.decide.specs.Turn.{start_of, searched_from, turned}
 use Rattle.plan.specs.Plan.{all_true, outcomes, evaluations, incomplete_count, mark_events, turn_events, events_for, cells_after}
-use Rattle.implicit.specs.declared.state.CallAnswer.TheVariants as D
 use Rattle.implicit.specs.declared.state.Ending.TheVariants as E
 use Rattle.implicit.specs.Record.{sound_last, sound_record, put_last}
 use Rattle.implicit.specs.Setup.{least_from, start_level, root_block, cut_first_in, first_blocks, ranges_legal, first_bytes, start_record, start_ring, start_cells}
@@ -140,8 +140,8 @@ unfolding tiled_step_with table_run_from tiled_after_taking touched_damaged touc
 run_counted = refl
 
 -- ---- a table filled from the chart after two steps; one of three numbers is refused by 17
-pub two_filled : (fill_answer (after 2).state (after 2).cells 6 ≡ D.Done) × (table_filled (after 2).state (after 2).cells lent ≡ counted 2)
-    × (fill_answer (after 2).state (after 2).cells 3 ≡ D.Refused R.Table)
+pub two_filled : (fill_answer (after 2).state (after 2).cells 6 ≡ Ok tt) × (table_filled (after 2).state (after 2).cells lent ≡ counted 2)
+    × (fill_answer (after 2).state (after 2).cells 3 ≡ Err R.Table)
 unfolding fill_answer sound_record sound_last put_last legal_chosen legal_interval whole_bound zero_as put_interval starting_last some_of is_damaged held_cells holds_cell
     meaning_of recounted_where tile_at tile_number tallied count_of reading is_true is_false is_uncertain is_given_up le fits
 two_filled = (refl, refl, refl)

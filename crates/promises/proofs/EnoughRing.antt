@@ -8,6 +8,7 @@ use native.Mathlib.Omega.{arith}
 use lib.Dec.{leb}
 use lib.ListN.{length, take, drop}
 use borrow.Author.Tests.{le-leb}
+use Rattle.std.specs.Prelude.{Ok}
 use Rattle.base.proofs.Test.{by_test}
 use Rattle.base.specs.Lists.{Every}
 use Rattle.base.proofs.ListLaws.{every_also}
@@ -26,7 +27,6 @@ use Rattle.plan.proofs.EventLaws.{queued_sound}
 use Rattle.implicit.specs.declared.state.State.{State}
 use Rattle.implicit.specs.declared.state.Ending.{Ending}
 use Rattle.implicit.specs.declared.state.Ending.TheVariants as E
-use Rattle.implicit.specs.declared.state.NeededAnswer.TheVariants as N
 use Rattle.implicit.specs.Record.{put_last, pixel_cells, queue_empty}
 use Rattle.implicit.specs.Room.{parameter_count, step_growth, enough_bytes, enough_ring}
 use Rattle.implicit.specs.Setup.{first_bytes, start_record}
@@ -206,7 +206,7 @@ module _ (a : Asked) {w₀ : World} (z : BegunAs a w₀) where
   six_stops_none n m w r budget few e = runs_enough a.chosen (begun_reached a w₀ z) n m w r budget few (begun_enough n (length w.ring) e)
 
   -- the entry's answer
-  pub ring_answered : (n : ℕ) → enough_ring a.chosen a.ranges n ≡ N.Bytes (enough_bytes a.chosen a.ranges n)
+  pub ring_answered : (n : ℕ) → enough_ring a.chosen a.ranges n ≡ Ok (enough_bytes a.chosen a.ranges n)
   unfolding enough_ring
   ring_answered n =
       let g = begun_passed a w₀ z in

@@ -1,4 +1,5 @@
 -- A picture that uses neither x nor y: every block stays where the first ones are, covers the whole picture, and all cells are alike. Assumes nothing.
+use Rattle.std.specs.Prelude.{Option, Some, None}
 use mathlib.Core.Path.{◌≡◌, refl, sym, ◌∙◌, subst}
 use mathlib.Core.Bool.{true, false, true≢false}
 use mathlib.Core.List.{List, [], ◌∷◌}
@@ -16,8 +17,7 @@ use Rattle.coordinate.proofs.CoverLaws.{root_covers}
 use Rattle.image.specs.Cell.{meanings}
 use Rattle.queue.specs.declared.Block.{Block}
 use Rattle.queue.specs.declared.directions.Direction.TheVariants as D
-use Rattle.queue.specs.declared.directions.DirectionAt.{DirectionAt}
-use Rattle.queue.specs.declared.directions.DirectionAt.TheVariants as A
+use Rattle.queue.specs.declared.directions.Direction.{Direction}
 use Rattle.queue.specs.Directions.{in_use}
 use Rattle.decide.specs.declared.Chosen.{Chosen}
 use Rattle.decide.specs.Damage.{sound, direction_of}
@@ -48,13 +48,13 @@ module _ (p : Chosen) (flat : in_use p.set D.XY ≡ false) where
   at_place : (b c : Block) → AtStart p b → InPlace b c → AtStart p c
   at_place b c h i = record { x = i.x ∙ h.x; y = i.y ∙ h.y }
 
-  along_start : (b : Block) → AtStart p b → (a : DirectionAt) → direction_of p b ≡ a → Every (AtStart p) (children_along p b a)
-  along_start b h (A.Along D.XY) e = absurd (true≢false (sym (direction_in_use p b D.XY e) ∙ flat))
-  along_start b h (A.Along D.M) e = every_also (InPlace b) (AtStart p) (λ c. at_place b c h) (children_cut b D.M) (cut_in_place b D.M)
-  along_start b h (A.Along D.N) e = every_also (InPlace b) (AtStart p) (λ c. at_place b c h) (children_cut b D.N) (cut_in_place b D.N)
-  along_start b h (A.Along D.Theta) e = every_also (InPlace b) (AtStart p) (λ c. at_place b c h) (children_cut b D.Theta) (cut_in_place b D.Theta)
-  along_start b h (A.Along D.T) e = every_also (InPlace b) (AtStart p) (λ c. at_place b c h) (children_cut b D.T) (cut_in_place b D.T)
-  along_start b h A.Beyond e = (h, tt)
+  along_start : (b : Block) → AtStart p b → (a : Option Direction) → direction_of p b ≡ a → Every (AtStart p) (children_along p b a)
+  along_start b h (Some D.XY) e = absurd (true≢false (sym (direction_in_use p b D.XY e) ∙ flat))
+  along_start b h (Some D.M) e = every_also (InPlace b) (AtStart p) (λ c. at_place b c h) (children_cut b D.M) (cut_in_place b D.M)
+  along_start b h (Some D.N) e = every_also (InPlace b) (AtStart p) (λ c. at_place b c h) (children_cut b D.N) (cut_in_place b D.N)
+  along_start b h (Some D.Theta) e = every_also (InPlace b) (AtStart p) (λ c. at_place b c h) (children_cut b D.Theta) (cut_in_place b D.Theta)
+  along_start b h (Some D.T) e = every_also (InPlace b) (AtStart p) (λ c. at_place b c h) (children_cut b D.T) (cut_in_place b D.T)
+  along_start b h None e = (h, tt)
 
   children_start : (b : Block) → sound p b ≡ true → AtStart p b → Every (AtStart p) (children_of p b)
   unfolding children_of

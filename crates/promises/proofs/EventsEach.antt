@@ -1,4 +1,5 @@
 -- What holds of each child of a block, whatever its direction, holds of each block that the step marks or queues. Assumes nothing.
+use Rattle.std.specs.Prelude.{Option, Some, None}
 use mathlib.Core.List.{List, [], ◌∷◌}
 use Prim.Native.Nat.{ℕ}
 use Rattle.base.proofs.Test.{by_test}
@@ -6,8 +7,6 @@ use Rattle.base.specs.Event.{Event, marks, queues, gives_up, queued_by}
 use Rattle.base.specs.Lists.{Every}
 use Rattle.queue.specs.declared.Block.{Block}
 use Rattle.decide.specs.declared.Chosen.{Chosen}
-use Rattle.decide.specs.declared.turn.Found.{Found}
-use Rattle.decide.specs.declared.turn.Found.TheVariants as F
 use Rattle.decide.specs.declared.verdict.Outcome.{Outcome}
 use Rattle.decide.specs.Verdict.{is_marking, is_incomplete}
 use Rattle.decide.specs.Turn.{searched, start_of, turned_to, turned_by, turned}
@@ -30,9 +29,9 @@ module _ (P : Block → Type 0) (keeps : (c : Block) (d : ℕ) → P c → P (tu
   marked_each (c ∷ cs) (o ∷ os) h =
       by_test (EachEvent P) (is_marking o) (marks c ∷ mark_events cs os) (mark_events cs os) (λ e. (h.0, marked_each cs os h.1)) (λ e. marked_each cs os h.1)
 
-  one_turned : (c : Block) (f : Found) (es : List (Event Block)) → P c → EachEvent P es → EachEvent P (turn_event (turned_by c f) ∷ es)
-  one_turned c (F.At d) es h k = (keeps c d h, k)
-  one_turned c F.Nothing es h k = k
+  one_turned : (c : Block) (f : Option ℕ) (es : List (Event Block)) → P c → EachEvent P es → EachEvent P (turn_event (turned_by c f) ∷ es)
+  one_turned c (Some d) es h k = (keeps c d h, k)
+  one_turned c None es h k = k
 
   turned_each : (n : ℕ) (cs : List Block) (os : List Outcome) → Every P cs → EachEvent P (turn_events (turned p b n) cs os)
   unfolding turn_events turned

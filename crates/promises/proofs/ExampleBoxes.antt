@@ -21,8 +21,9 @@ use Rattle.image.specs.Cell.{cell_code, meaning_of, reading, is_marked}
 use Rattle.image.specs.Range.{holds_cell, rectangle_of}
 use Rattle.image.specs.Painting.{held_cells, every_of, painted}
 use Rattle.boxes.specs.declared.Edges.{Edges}
-use Rattle.boxes.specs.declared.BoxAnswer.{BoxAnswer}
-use Rattle.boxes.specs.declared.BoxAnswer.TheVariants as B
+use Rattle.std.specs.Prelude.{Result, Ok}
+use Rattle.refusal.specs.declared.Refusal.{Refusal}
+use Rattle.boxes.specs.declared.BlockBox.{BlockBox}
 use Rattle.boxes.specs.declared.transformation.MapKind.TheVariants as K
 use Rattle.boxes.specs.Arithmetic.{least_of, greatest_of, around, plus, negative, minus, times, over}
 use Rattle.boxes.specs.Maps.{slope_of, map_of, image_of}
@@ -82,13 +83,16 @@ second_half = bounds 0x3fe0000000000001 0x3ff0000000000005
 abbrev part_at : ℕ → Coordinate
 part_at i = record { index = i; rank = 47 }
 
-abbrev part_box : ℕ → ℕ → BoxAnswer
+abbrev boxed : Edges → Interval → Interval → BlockBox
+boxed e x y = record { edges = e; x = x; y = y }
+
+abbrev part_box : ℕ → ℕ → Result BlockBox Refusal
 part_box i j = box_of two_pixels K.Quick (part_at i) (part_at j)
 
-part_boxes : (part_box 0 0 ≡ B.Box (edges_of zero_at half_at zero_at half_at) first_half first_half)
-    × (part_box 1 0 ≡ B.Box (edges_of half_at one_at zero_at half_at) second_half first_half)
-    × (part_box 0 1 ≡ B.Box (edges_of zero_at half_at half_at one_at) first_half second_half)
-    × (part_box 1 1 ≡ B.Box (edges_of half_at one_at half_at one_at) second_half second_half)
+part_boxes : (part_box 0 0 ≡ Ok (boxed (edges_of zero_at half_at zero_at half_at) first_half first_half))
+    × (part_box 1 0 ≡ Ok (boxed (edges_of half_at one_at zero_at half_at) second_half first_half))
+    × (part_box 0 1 ≡ Ok (boxed (edges_of zero_at half_at half_at one_at) first_half second_half))
+    × (part_box 1 1 ≡ Ok (boxed (edges_of half_at one_at half_at one_at) second_half second_half))
 unfolding box_of box_along low_end high_end middle_of low_edge high_edge axis_map point_at in_pixels image_of map_of slope_of over times minus negative plus around
     greatest_of least_of next_below next_above put_interval zero_as legal_interval whole_bound in_units rounded half_sum kind_of middle_at in_range places inside of_bits to_bits
     of_fields add mul div neg lt le eq round sum units odd size span climb
@@ -123,12 +127,12 @@ unfolding EveryAnswer ran JudgedByBox NoneInBox judgements_taking judgements_of 
 parts_judged = (
   (tt, ((λ l e. absurd (left_open e)), ((λ l e. absurd (left_open e)), tt))),
   (
-    (λ l e. (K.Quick, edges_of zero_at half_at zero_at half_at, first_half, first_half, part_boxes.0, λ u v a h k held. half_under u h.1)),
+    (λ l e. (K.Quick, boxed (edges_of zero_at half_at zero_at half_at) first_half first_half, part_boxes.0, λ u v a h k held. half_under u h.1)),
     (
-      (λ l e. (K.Quick, edges_of half_at one_at zero_at half_at, second_half, first_half, part_boxes.1, λ u v a h k held. one_under u h.1)),
+      (λ l e. (K.Quick, boxed (edges_of half_at one_at zero_at half_at) second_half first_half, part_boxes.1, λ u v a h k held. one_under u h.1)),
       (
-        (λ l e. (K.Quick, edges_of zero_at half_at half_at one_at, first_half, second_half, part_boxes.2, λ u v a h k held. half_under u h.1)),
-        ((λ l e. (K.Quick, edges_of half_at one_at half_at one_at, second_half, second_half, part_boxes.3, λ u v a h k held. one_under u h.1)), tt),
+        (λ l e. (K.Quick, boxed (edges_of zero_at half_at half_at one_at) first_half second_half, part_boxes.2, λ u v a h k held. half_under u h.1)),
+        ((λ l e. (K.Quick, boxed (edges_of half_at one_at half_at one_at) second_half second_half, part_boxes.3, λ u v a h k held. one_under u h.1)), tt),
       ),
     ),
   ),

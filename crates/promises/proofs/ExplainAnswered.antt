@@ -11,11 +11,10 @@ use lib.Dec.{ltb}
 use lib.ListN.{length, drop}
 use borrow.Author.Tests.{ltb-true}
 use Rattle.base.proofs.Test.{and_left, and_right}
+use Rattle.std.specs.Prelude.{Result, Ok, Err}
 use Rattle.refusal.specs.declared.Refusal.{Refusal}
 use Rattle.interval.specs.Bounds.{InFormat}
 use Rattle.decide.specs.declared.Chosen.{Chosen}
-use Rattle.implicit.specs.declared.state.SetupAnswer.{SetupAnswer}
-use Rattle.implicit.specs.declared.state.SetupAnswer.TheVariants as S
 use Rattle.implicit.specs.declared.state.Ending.{Ending}
 use Rattle.implicit.specs.declared.state.Ending.TheVariants as E
 use Rattle.implicit.specs.declared.state.Ranges.{Ranges}
@@ -41,20 +40,20 @@ use Rattle.promises.proofs.Explains.{tool_steps, tool_right, begins_there}
 -- ---- the answers apart
 
 -- it was begun: the setup answered a record, and the pixel lies inside
-record Begun (x : SetupAnswer) (inside : Bool) : Type 0 where
+record Begun (x : Result State Refusal) (inside : Bool) : Type 0 where
   first : State
-  ready : x ≡ S.Ready first
+  ready : x ≡ Ok first
   pixel : inside ≡ true
 
-begun_with : (t : State) → Begun (S.Ready t) true
+begun_with : (t : State) → Begun (Ok t) true
 begun_with t = record { first = t; ready = refl; pixel = refl }
 
 -- what it left then
-begun_left : (x : SetupAnswer) (inside : Bool) (after before : List ℕ) → Begun x inside → if_ready (and_then_pixel x inside) after before ≡ after
+begun_left : (x : Result State Refusal) (inside : Bool) (after before : List ℕ) → Begun x inside → if_ready (and_then_pixel x inside) after before ≡ after
 begun_left x inside after before b = rw (b.ready, b.pixel)
 
 -- an answer by the end of a run: the record and the counts are the run's
-record Told (x : SetupAnswer) (inside : Bool) (e : RunEnd) (y : Ending) (s : State) (n evals bytes : ℕ) (ending : Ending) : Type 0 where
+record Told (x : Result State Refusal) (inside : Bool) (e : RunEnd) (y : Ending) (s : State) (n evals bytes : ℕ) (ending : Ending) : Type 0 where
   begun : Begun x inside
   state_is : s ≡ e.world.state
   steps_are : n ≡ e.steps
@@ -63,40 +62,40 @@ record Told (x : SetupAnswer) (inside : Bool) (e : RunEnd) (y : Ending) (s : Sta
   ending_is : ending ≡ y
 
 -- where it is a reason
-reasoned : (x : SetupAnswer) (inside : Bool) (because : Reason) (e : RunEnd) (y : Ending) (why : Reason) (s : State) (n evals bytes : ℕ)
-    (ending : Ending) → unless_refused (and_then_pixel x inside) (explained_by because e y) ≡ X.Of why s n evals bytes ending
+reasoned : (x : Result State Refusal) (inside : Bool) (because : Reason) (e : RunEnd) (y : Ending) (why : Reason) (s : State) (n evals bytes : ℕ)
+    (ending : Ending) → unless_refused (and_then_pixel x inside) (explained_by because e y) ≡ Ok (X.Of why s n evals bytes ending)
     → (why ≡ because) × Told x inside e y s n evals bytes ending
-reasoned (S.Ready t) true because e (E.Stop r) why s n evals bytes ending f = let z : ◌≡◌ {A = ℕ} 0 1 = cc in absurd (omega arith)
-reasoned (S.Ready t) true because e E.Done why s n evals bytes ending f =
+reasoned (Ok t) true because e (E.Stop r) why s n evals bytes ending f = let z : ◌≡◌ {A = ℕ} 0 1 = cc in absurd (omega arith)
+reasoned (Ok t) true because e E.Done why s n evals bytes ending f =
     (cc, record { begun = begun_with t; state_is = cc; steps_are = cc; evaluations_are = cc; bytes_are = cc; ending_is = cc })
-reasoned (S.Ready t) true because e E.Limit why s n evals bytes ending f =
+reasoned (Ok t) true because e E.Limit why s n evals bytes ending f =
     (cc, record { begun = begun_with t; state_is = cc; steps_are = cc; evaluations_are = cc; bytes_are = cc; ending_is = cc })
-reasoned (S.Ready t) true because e E.More why s n evals bytes ending f =
+reasoned (Ok t) true because e E.More why s n evals bytes ending f =
     (cc, record { begun = begun_with t; state_is = cc; steps_are = cc; evaluations_are = cc; bytes_are = cc; ending_is = cc })
-reasoned (S.Ready t) false because e y why s n evals bytes ending f = let z : ◌≡◌ {A = ℕ} 0 1 = cc in absurd (omega arith)
-reasoned (S.Refused r) inside because e y why s n evals bytes ending f = let z : ◌≡◌ {A = ℕ} 0 1 = cc in absurd (omega arith)
+reasoned (Ok t) false because e y why s n evals bytes ending f = let z : ◌≡◌ {A = ℕ} 0 1 = cc in absurd (omega arith)
+reasoned (Err r) inside because e y why s n evals bytes ending f = let z : ◌≡◌ {A = ℕ} 0 1 = cc in absurd (omega arith)
 
 -- no step refused then
-not_stopped : (x : SetupAnswer) (inside : Bool) (because : Reason) (e : RunEnd) (y : Ending) (why : Reason) (s : State) (n evals bytes : ℕ)
-    (ending : Ending) → unless_refused (and_then_pixel x inside) (explained_by because e y) ≡ X.Of why s n evals bytes ending
+not_stopped : (x : Result State Refusal) (inside : Bool) (because : Reason) (e : RunEnd) (y : Ending) (why : Reason) (s : State) (n evals bytes : ℕ)
+    (ending : Ending) → unless_refused (and_then_pixel x inside) (explained_by because e y) ≡ Ok (X.Of why s n evals bytes ending)
     → (r : Refusal) → ¬ (y ≡ E.Stop r)
-not_stopped (S.Ready t) true because e y why s n evals bytes ending f r i =
-    let g : explained_by because e (E.Stop r) ≡ X.Of why s n evals bytes ending = rw i at f in let z : ◌≡◌ {A = ℕ} 0 1 = cc in omega arith
-not_stopped (S.Ready t) false because e y why s n evals bytes ending f r i = let z : ◌≡◌ {A = ℕ} 0 1 = cc in omega arith
-not_stopped (S.Refused o) inside because e y why s n evals bytes ending f r i = let z : ◌≡◌ {A = ℕ} 0 1 = cc in omega arith
+not_stopped (Ok t) true because e y why s n evals bytes ending f r i =
+    let g : Ok (explained_by because e (E.Stop r)) ≡ Ok (X.Of why s n evals bytes ending) = rw i at f in let z : ◌≡◌ {A = ℕ} 0 1 = cc in omega arith
+not_stopped (Ok t) false because e y why s n evals bytes ending f r i = let z : ◌≡◌ {A = ℕ} 0 1 = cc in omega arith
+not_stopped (Err o) inside because e y why s n evals bytes ending f r i = let z : ◌≡◌ {A = ℕ} 0 1 = cc in omega arith
 
 -- where it is a step's number
-stopped : (x : SetupAnswer) (inside : Bool) (because : Reason) (e : RunEnd) (y : Ending) (why : Refusal) (s : State) (n evals bytes : ℕ)
-    → unless_refused (and_then_pixel x inside) (explained_by because e y) ≡ X.Stopped why s n evals bytes
+stopped : (x : Result State Refusal) (inside : Bool) (because : Reason) (e : RunEnd) (y : Ending) (why : Refusal) (s : State) (n evals bytes : ℕ)
+    → unless_refused (and_then_pixel x inside) (explained_by because e y) ≡ Ok (X.Stopped why s n evals bytes)
     → Told x inside e y s n evals bytes (E.Stop why)
-stopped (S.Ready t) true because e (E.Stop r) why s n evals bytes f =
+stopped (Ok t) true because e (E.Stop r) why s n evals bytes f =
     let same : why ≡ r = cc in
     record { begun = begun_with t; state_is = cc; steps_are = cc; evaluations_are = cc; bytes_are = cc; ending_is = ap E.Stop same }
-stopped (S.Ready t) true because e E.Done why s n evals bytes f = let z : ◌≡◌ {A = ℕ} 0 1 = cc in absurd (omega arith)
-stopped (S.Ready t) true because e E.Limit why s n evals bytes f = let z : ◌≡◌ {A = ℕ} 0 1 = cc in absurd (omega arith)
-stopped (S.Ready t) true because e E.More why s n evals bytes f = let z : ◌≡◌ {A = ℕ} 0 1 = cc in absurd (omega arith)
-stopped (S.Ready t) false because e y why s n evals bytes f = let z : ◌≡◌ {A = ℕ} 0 1 = cc in absurd (omega arith)
-stopped (S.Refused r) inside because e y why s n evals bytes f = let z : ◌≡◌ {A = ℕ} 0 1 = cc in absurd (omega arith)
+stopped (Ok t) true because e E.Done why s n evals bytes f = let z : ◌≡◌ {A = ℕ} 0 1 = cc in absurd (omega arith)
+stopped (Ok t) true because e E.Limit why s n evals bytes f = let z : ◌≡◌ {A = ℕ} 0 1 = cc in absurd (omega arith)
+stopped (Ok t) true because e E.More why s n evals bytes f = let z : ◌≡◌ {A = ℕ} 0 1 = cc in absurd (omega arith)
+stopped (Ok t) false because e y why s n evals bytes f = let z : ◌≡◌ {A = ℕ} 0 1 = cc in absurd (omega arith)
+stopped (Err r) inside because e y why s n evals bytes f = let z : ◌≡◌ {A = ℕ} 0 1 = cc in absurd (omega arith)
 
 same_end_lem : (e : RunEnd) (s : State) (ring cells : List ℕ) (n evals bytes : ℕ) (ending : Ending) → s ≡ e.world.state → ring ≡ e.world.ring
     → cells ≡ e.world.cells → n ≡ e.steps → evals ≡ e.evaluations → bytes ≡ e.tape → ending ≡ e.ending
@@ -104,13 +103,13 @@ same_end_lem : (e : RunEnd) (s : State) (ring cells : List ℕ) (n evals bytes :
 same_end_lem e s ring cells n evals bytes ending a b c d f g h = rw (a, b, c, d, f, g, h) refl
 
 -- refused, it left what there was
-refused_left : (x : SetupAnswer) (because : Reason) (e : RunEnd) (y : Ending) (why : Refusal) (after before : List ℕ)
-    → unless_refused x (explained_by because e y) ≡ X.Refused why → if_ready x after before ≡ before
-refused_left (S.Ready t) because e (E.Stop r) why after before f = let z : ◌≡◌ {A = ℕ} 0 1 = cc in absurd (omega arith)
-refused_left (S.Ready t) because e E.Done why after before f = let z : ◌≡◌ {A = ℕ} 0 1 = cc in absurd (omega arith)
-refused_left (S.Ready t) because e E.Limit why after before f = let z : ◌≡◌ {A = ℕ} 0 1 = cc in absurd (omega arith)
-refused_left (S.Ready t) because e E.More why after before f = let z : ◌≡◌ {A = ℕ} 0 1 = cc in absurd (omega arith)
-refused_left (S.Refused r) because e y why after before f = refl
+refused_left : (x : Result State Refusal) (because : Reason) (e : RunEnd) (y : Ending) (why : Refusal) (after before : List ℕ)
+    → unless_refused x (explained_by because e y) ≡ Err why → if_ready x after before ≡ before
+refused_left (Ok t) because e (E.Stop r) why after before f = let z : ◌≡◌ {A = ℕ} 0 1 = cc in absurd (omega arith)
+refused_left (Ok t) because e E.Done why after before f = let z : ◌≡◌ {A = ℕ} 0 1 = cc in absurd (omega arith)
+refused_left (Ok t) because e E.Limit why after before f = let z : ◌≡◌ {A = ℕ} 0 1 = cc in absurd (omega arith)
+refused_left (Ok t) because e E.More why after before f = let z : ◌≡◌ {A = ℕ} 0 1 = cc in absurd (omega arith)
+refused_left (Err r) because e y why after before f = refl
 
 -- the pixel in a column, and in a row from the top
 pixel_at : (p : Chosen) (column row : ℕ) → pixel_inside p column row ≡ true → (q : Pixel p) × (column ≡ q.x) × (row ≡ p.height - 1 - q.y)
@@ -122,7 +121,7 @@ pixel_at p column row t =
 
 -- ---- the promises, from what the contract ensures
 
-module _ (chosen : Chosen) (ranges : Ranges) (ring cells tape : List ℕ) (steps column row : ℕ) (r : Explanation) (ring' cells' : List ℕ)
+module _ (chosen : Chosen) (ranges : Ranges) (ring cells tape : List ℕ) (steps column row : ℕ) (r : Result Explanation Refusal) (ring' cells' : List ℕ)
     (is : r ≡ explained (cleared chosen) ranges ring cells tape steps column row)
     (ring_is : ring' ≡ ring_explained (cleared chosen) ranges ring cells tape steps column row)
     (cells_are : cells' ≡ cells_explained (cleared chosen) ranges ring cells tape steps column row) where
@@ -138,7 +137,7 @@ module _ (chosen : Chosen) (ranges : Ranges) (ring cells tape : List ℕ) (steps
   abbrev past : List PastStep
   past = history_from steps (world_begun (cleared chosen) ranges ring cells) tape []
 
-  abbrev ready_as : SetupAnswer
+  abbrev ready_as : Result State Refusal
   ready_as = setup_answer (cleared chosen) ranges (length ring) (length cells)
 
   abbrev inside : Bool
@@ -159,7 +158,7 @@ module _ (chosen : Chosen) (ranges : Ranges) (ring cells tape : List ℕ) (steps
 
     -- where it answers a reason: what it leaves is the end of the run from an accepted setup on; its steps are finished steps, and the reason
     -- explains the pixel
-    pub reason_answered : (why : Reason) (s : State) (n evals bytes : ℕ) (ending : Ending) → r ≡ X.Of why s n evals bytes ending
+    pub reason_answered : (why : Reason) (s : State) (n evals bytes : ℕ) (ending : Ending) → r ≡ Ok (X.Of why s n evals bytes ending)
         → (w₀ : World) × BegunAs (asked_by chosen ranges ring cells) w₀ × (run_from steps w₀ tape ≡ ran_to s ring' cells' n evals bytes ending)
         × (q : Pixel (cleared chosen)) × (column ≡ q.x) × (row ≡ chosen.height - 1 - q.y)
         × (c : Steps n w₀ (world_of s ring' cells')) × NoMove c × (history_from steps w₀ tape [] ≡ past_in c)
@@ -186,7 +185,7 @@ module _ (chosen : Chosen) (ranges : Ranges) (ring cells tape : List ℕ) (steps
             (c, alone, h, subst (λ (l : List PastStep). Explains p q l end.world why) h (rw same (unfold reason_after in x)))
 
     -- where it answers a step's number: the same, and a step on what it leaves, with the rest of the tape, refuses by that number
-    pub stop_answered : (why : Refusal) (s : State) (n evals bytes : ℕ) → r ≡ X.Stopped why s n evals bytes
+    pub stop_answered : (why : Refusal) (s : State) (n evals bytes : ℕ) → r ≡ Ok (X.Stopped why s n evals bytes)
         → (w₀ : World) × BegunAs (asked_by chosen ranges ring cells) w₀ × (run_from steps w₀ tape ≡ ran_to s ring' cells' n evals bytes (E.Stop why))
         × (c : Steps n w₀ (world_of s ring' cells')) × NoMove c × (tape_step_of (world_of s ring' cells') (drop bytes tape) ≡ refused why)
     unfolding explained beginning
@@ -202,7 +201,7 @@ module _ (chosen : Chosen) (ranges : Ranges) (ring cells tape : List ℕ) (steps
         Leaves e = (c : Steps e.steps w₀ e.world) × NoMove c × (tape_step_of e.world (drop e.tape tape) ≡ refused why)
 
   -- where it answers a reason, the steps are those asked for, or the queue emptied sooner
-  pub end_answered : (why : Reason) (s : State) (n evals bytes : ℕ) (ending : Ending) → r ≡ X.Of why s n evals bytes ending
+  pub end_answered : (why : Reason) (s : State) (n evals bytes : ℕ) (ending : Ending) → r ≡ Ok (X.Of why s n evals bytes ending)
       → (n ≡ steps) ⊎ ((n < steps) × (queue_empty s ≡ true))
   unfolding explained beginning
   end_answered why s n evals bytes ending e =
@@ -212,7 +211,7 @@ module _ (chosen : Chosen) (ranges : Ranges) (ring cells tape : List ℕ) (steps
       (ends_asked steps w₀ tape (not_stopped ready_as inside because end end.ending why s n evals bytes ending (sym is ∙ e)))
 
   -- where it is refused, nothing was written
-  pub refusal_answered : (why : Refusal) → r ≡ X.Refused why → (ring' ≡ ring) × (cells' ≡ cells)
+  pub refusal_answered : (why : Refusal) → r ≡ Err why → (ring' ≡ ring) × (cells' ≡ cells)
   unfolding explained ring_explained cells_explained
   refusal_answered why e =
       let because = reason_after p column row end past in

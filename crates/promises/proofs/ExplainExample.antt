@@ -5,6 +5,8 @@ use mathlib.Core.Logic.{◌⊎◌}
 use mathlib.Core.Bool.{true}
 use mathlib.Core.List.{List, [], ◌∷◌}
 use Prim.Native.Nat.{ℕ, ◌<◌}
+use Rattle.std.specs.Prelude.{Result, Ok, Err}
+use Rattle.refusal.specs.declared.Refusal.{Refusal}
 use Rattle.refusal.specs.declared.Refusal.TheVariants as R
 use Rattle.implicit.specs.declared.state.Ending.TheVariants as E
 use Rattle.explain.specs.declared.reason.Reason.TheVariants as B
@@ -47,7 +49,7 @@ use Rattle.promises.proofs.Example.{sheet, first, begun, second}
 use Rattle.promises.proofs.WhyPromises.{explain_answered, explains_the_end, explain_stopped, explain_refused}
 
 -- what it answers, and what it leaves of the ring and of the cells, on this tape, about this column
-abbrev answers : List ℕ → ℕ → Explanation
+abbrev answers : List ℕ → ℕ → Result Explanation Refusal
 answers tape column = explained (cleared sheet.chosen) sheet.ranges sheet.ring sheet.cells tape 9 column 0
 
 abbrev ring_left : List ℕ → ℕ → List ℕ
@@ -57,8 +59,8 @@ abbrev cells_left : List ℕ → ℕ → List ℕ
 cells_left tape column = cells_explained (cleared sheet.chosen) sheet.ranges sheet.ring sheet.cells tape 9 column 0
 
 -- computed
-pub answers_are : (answers (128 ∷ 0 ∷ []) 1 ≡ Explanation.Of (B.False (moment_at 1 2)) second.state 1 2 2 E.Done)
-    × (answers (128 ∷ []) 1 ≡ Explanation.Stopped R.Verdicts first.state 0 0 0) × (answers (128 ∷ 0 ∷ []) 2 ≡ Explanation.Refused R.Pixel)
+pub answers_are : (answers (128 ∷ 0 ∷ []) 1 ≡ Ok (Explanation.Of (B.False (moment_at 1 2)) second.state 1 2 2 E.Done))
+    × (answers (128 ∷ []) 1 ≡ Ok (Explanation.Stopped R.Verdicts first.state 0 0 0)) × (answers (128 ∷ 0 ∷ []) 2 ≡ Err R.Pixel)
 unfolding explained ring_explained cells_explained beginning pixel_inside world_begun reason_after setup_answer setup_refusal ranges_legal first_bytes
     first_blocks cut_first_in root_block start_level least_from start_record start_ring start_cells queue_codes memory encode place_code coordinate_code
     parameters_code parameter_code starting_last remembered small_code code_of tail_of little_endian stored painted_cells paintable painted

@@ -9,6 +9,7 @@ use native.Mathlib.Nat.{zero-add}
 use lib.Dec.{leb, ltb}
 use lib.ListN.{length, take, drop}
 use borrow.Author.Tests.{leb-true, le-leb, lt-ltb}
+use Rattle.std.specs.Prelude.{Ok}
 use Rattle.base.proofs.Test.{by_test, cond_yes, cond_no, and_both}
 use Rattle.interval.specs.Bounds.{InFormat}
 use Rattle.image.specs.declared.Reading.TheVariants as R
@@ -26,7 +27,6 @@ use Rattle.implicit.specs.declared.state.Ending.{Ending}
 use Rattle.implicit.specs.declared.state.Ending.TheVariants as E
 use Rattle.implicit.specs.declared.state.Ranges.{Ranges}
 use Rattle.implicit.specs.declared.state.State.{State}
-use Rattle.implicit.specs.declared.state.SetupAnswer.TheVariants as S
 use Rattle.implicit.specs.Record.{queue_empty}
 use Rattle.implicit.specs.Setup.{cleared, start_record, start_ring, start_cells, setup_answer, ring_begun, cells_begun}
 use Rattle.implicit.specs.Listing.{front_of}
@@ -202,7 +202,7 @@ same_world s s' ring ring' cells cells' e f g = rw (e, f, g)
 
 pub begins_there : (chosen : Chosen) (ranges : Ranges) (ring cells : List ℕ)
     → InFormat ranges.m × InFormat ranges.n × InFormat ranges.theta × InFormat ranges.t
-    → (s : State) → setup_answer (cleared chosen) ranges (length ring) (length cells) ≡ S.Ready s
+    → (s : State) → setup_answer (cleared chosen) ranges (length ring) (length cells) ≡ Ok s
     → BegunAs (asked_by chosen ranges ring cells)
     (world_of (start_record (cleared chosen) ranges (length ring)) (start_ring (cleared chosen) ranges ring) (start_cells (cleared chosen) ranges cells))
 begins_there chosen ranges ring cells held s e =

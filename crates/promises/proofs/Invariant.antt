@@ -1,5 +1,6 @@
 -- The invariant of a world that a setup and finished steps leave: its record is sound, its bytes hold undamaged blocks, as many as are waiting, and
 -- no pixel's cell is damaged. So none of the tests for damage refuses a step on it. Assumes nothing.
+use Rattle.queue.specs.Queue.{front_taken}
 use mathlib.Core.Path.{◌≡◌, ap}
 use mathlib.Core.Bool.{Bool, true, false, not}
 use mathlib.Core.List.{List, [], ◌∷◌}
@@ -15,7 +16,6 @@ use Rattle.refusal.specs.declared.Refusal.TheVariants as R
 use Rattle.image.specs.Cell.{Cell, meanings, meaning_of, is_damaged}
 use Rattle.image.proofs.BlockLaws.{pixels_every}
 use Rattle.queue.specs.declared.Block.{Block}
-use Rattle.queue.specs.declared.Taken.TheVariants as T
 use Rattle.queue.specs.Block.{remembered}
 use Rattle.queue.specs.Code.{encode}
 use Rattle.queue.specs.Ring.{content, fits_ring, wrapped}
@@ -78,12 +78,12 @@ module _ (w : World) (c : Block) (rest : List Block) (k : Keeps w (c ∷ rest)) 
   pub fits : fits_ring (length w.ring) w.state.head w.state.used ≡ true
   fits = keeps_fits w (c ∷ rest) k
 
-  taking : (front_of w.state w.ring ≡ T.Front c (remembered c) head' used') × (size ≤ w.state.used)
+  taking : (front_of w.state w.ring ≡ front_taken c (remembered c) head' used') × (size ≤ w.state.used)
       × BytesHold w.state.chosen.set (remembered c) w.state.back (content w.ring head' used') rest
   taking = take_answers w.ring w.state.head w.state.used w.state.chosen.set fits k.holds
 
   -- the front block is read
-  pub front_is : front_of w.state w.ring ≡ T.Front c (remembered c) head' used'
+  pub front_is : front_of w.state w.ring ≡ front_taken c (remembered c) head' used'
   front_is = taking.0
 
   pub size_in : size ≤ w.state.used

@@ -1,4 +1,5 @@
 -- The places of a block's children along xy are the quarters of its place that `theory` counts. Assumes nothing.
+use Rattle.std.specs.Prelude.{Some}
 use mathlib.Core.Path.{◌≡◌, refl, sym, ap, ◌∙◌}
 use mathlib.Core.Bool.{Bool, true, false, cond, ◌&&◌}
 use mathlib.Core.List.{List, [], ◌∷◌, map}
@@ -13,7 +14,6 @@ use Rattle.coordinate.specs.Lone.{low_half, high_half}
 use Rattle.coordinate.proofs.PixelLaws.{inside_pixel}
 use Rattle.queue.specs.declared.Block.{Block}
 use Rattle.queue.specs.declared.directions.Direction.TheVariants as D
-use Rattle.queue.specs.declared.directions.DirectionAt.TheVariants as A
 use Rattle.decide.specs.declared.Chosen.{Chosen}
 use Rattle.decide.specs.Damage.{sound, direction_of}
 use Rattle.decide.specs.Children.{moved_to, quarters_of, begins_inside, kept_inside, children_xy, children_of}
@@ -115,7 +115,7 @@ module _ (p : Chosen) (b : Block) (j : ℕ) (ex : b.x.rank ≡ suc j) (ey : b.y.
       rw e (four (λ x y. true) (λ x y i k xr yr xi yi. quarter_all x y i k xr yr xi yi (omega arith)))))
 
 -- the children of a sound block along xy lie at the quarters of its place
-pub children_places : (p : Chosen) (b : Block) → sound p b ≡ true → direction_of p b ≡ A.Along D.XY
+pub children_places : (p : Chosen) (b : Block) → sound p b ≡ true → direction_of p b ≡ Some D.XY
     → map place_of_block (children_of p b) ≡ quarters 48 p.width p.height (place_of_block b)
 unfolding children_of
 children_places p b ok e =

@@ -1,5 +1,6 @@
 -- The real cutting loses nothing: a mix of a pixel that a sound block holds lies in one of its children, along xy and along every parameter.
 -- Assumes nothing.
+use Rattle.std.specs.Prelude.{Option}
 use mathlib.Core.Path.{◌≡◌, refl, sym, ap, ◌∙◌}
 use mathlib.Core.Logic.{inl, inr}
 use mathlib.Core.Bool.{Bool, true}
@@ -18,8 +19,7 @@ use Rattle.interval.proofs.LaterCut.{later_real}
 use Rattle.queue.specs.declared.Block.{Block}
 use Rattle.queue.specs.declared.directions.Direction.{Direction}
 use Rattle.queue.specs.declared.directions.Direction.TheVariants as D
-use Rattle.queue.specs.declared.directions.DirectionAt.{DirectionAt}
-use Rattle.queue.specs.declared.directions.DirectionAt.TheVariants as A
+use Rattle.std.specs.declared.option.Option.TheVariants as A
 use Rattle.queue.specs.Block.{is_integer, parameter_of, with_parameter}
 use Rattle.decide.specs.declared.Chosen.{Chosen}
 use Rattle.decide.specs.Damage.{sound, direction_of}
@@ -98,7 +98,7 @@ module _ (M : Measures) where
     holds_with d b u a q h k = rw (place_with d b u) ((h.0.0, held_with d b u a h.0.1 k), h.1)
 
     module _ (b : Block) (ok : sound p b ≡ true) (fine : Fine p.set b) (a : Mix M) (q : Pixel p) (h : Holds (covers_in p) Q a q b) where
-      split_cut : (d : Direction) → direction_of p b ≡ A.Along d → Some (Holds (covers_in p) Q a q) (children_cut b d)
+      split_cut : (d : Direction) → direction_of p b ≡ A.Some d → Some (Holds (covers_in p) Q a q) (children_cut b d)
       unfolding children_cut Holds
       split_cut d e =
           let z = (fine d).proper (direction_in_use p b d e) in
@@ -119,7 +119,7 @@ module _ (M : Measures) where
           (λ e. four)
 
       -- one of the quarters that are listed holds the point as one of the pixel
-      split_xy : direction_of p b ≡ A.Along D.XY → Q.At a q → Some (Holds (covers_in p) Q a q) (children_xy p b)
+      split_xy : direction_of p b ≡ A.Some D.XY → Q.At a q → Some (Holds (covers_in p) Q a q) (children_xy p b)
       unfolding Holds PlaceHolds
       split_xy e at =
           let up = ltb-true ordinary_floor b.x.rank (cut_along p b D.XY ok e refl) in
@@ -130,16 +130,16 @@ module _ (M : Measures) where
           some_each (λ c. HeldBy M c a) (λ c. PlaceHolds 48 M.LiesX M.LiesY a.x a.y q (place_of_block c)) (Holds (covers_in p) Q a q) (λ c k l. ((l.0, k), l.1)) (children_xy p b) xy_held
           (some_of_map (PlaceHolds 48 M.LiesX M.LiesY a.x a.y q) place_of_block (children_xy p b) s)
         where
-          children_are : direction_of p b ≡ A.Along D.XY → children_of p b ≡ children_xy p b
+          children_are : direction_of p b ≡ A.Some D.XY → children_of p b ≡ children_xy p b
           children_are e = unfold children_of in rw (ok, e)
 
-      split_along : (w : DirectionAt) → direction_of p b ≡ w → Q.At a q → Some (Holds (covers_in p) Q a q) (children_along p b w)
-      split_along (A.Along D.XY) e at = split_xy e at
-      split_along (A.Along D.M) e at = split_cut D.M e
-      split_along (A.Along D.N) e at = split_cut D.N e
-      split_along (A.Along D.Theta) e at = split_cut D.Theta e
-      split_along (A.Along D.T) e at = split_cut D.T e
-      split_along A.Beyond e at = unfold Some in inl h
+      split_along : (w : Option Direction) → direction_of p b ≡ w → Q.At a q → Some (Holds (covers_in p) Q a q) (children_along p b w)
+      split_along (A.Some D.XY) e at = split_xy e at
+      split_along (A.Some D.M) e at = split_cut D.M e
+      split_along (A.Some D.N) e at = split_cut D.N e
+      split_along (A.Some D.Theta) e at = split_cut D.Theta e
+      split_along (A.Some D.T) e at = split_cut D.T e
+      split_along A.None e at = unfold Some in inl h
 
       children_hold : Q.At a q → Some (Holds (covers_in p) Q a q) (children_of p b)
       unfolding children_of

@@ -10,6 +10,7 @@ use lib.ListN.{length, take}
 use lib.ListN as L
 use lib.Seq.{take_all}
 use borrow.Author.Tests.{le-leb, lt-ltb, le-ltb, eq-eqb, ne_eqb}
+use Rattle.std.specs.Prelude.{Ok, Err}
 use Rattle.refusal.specs.declared.Refusal.{Refusal}
 use Rattle.refusal.specs.declared.Refusal.TheVariants as R
 use Rattle.refusal.specs.Number.{number}
@@ -21,8 +22,6 @@ use Rattle.queue.specs.Block.{remembered}
 use Rattle.decide.specs.declared.Chosen.{Chosen}
 use Rattle.decide.specs.Children.{children_of}
 use Rattle.implicit.specs.declared.state.State.{State}
-use Rattle.implicit.specs.declared.state.CallAnswer.TheVariants as CallAnswer
-use Rattle.implicit.specs.declared.state.CountsAnswer.TheVariants as CountsAnswer
 use Rattle.implicit.specs.declared.state.Ending.{Ending}
 use Rattle.implicit.specs.declared.state.Ending.TheVariants as E
 use Rattle.implicit.specs.Record.{refused_unless, pixel_count, pixel_cells, sound_record}
@@ -128,7 +127,7 @@ module _ (w : World) (q : List Block) (k : Keeps w q) where
   enough_test = le-leb (pixel_count w.state.chosen) (length w.cells) k.enough
 
   -- with room it is drawn
-  pub picture_drawn : (room : ℕ) → pixel_count w.state.chosen ≤ room → picture_answer w.state w.cells room ≡ CallAnswer.Done
+  pub picture_drawn : (room : ℕ) → pixel_count w.state.chosen ≤ room → picture_answer w.state w.cells room ≡ Ok tt
   unfolding picture_answer
   picture_drawn room h =
       rw (own_ring, enough_test, le-leb (pixel_count w.state.chosen) room h, pixels_fine w.state.chosen w.cells k.enough k.whole)
@@ -137,12 +136,12 @@ module _ (w : World) (q : List Block) (k : Keeps w q) where
   unfolding picture_answer
   picture_not_eight room e = go (leb (pixel_count w.state.chosen) room) (rw (own_ring, enough_test, pixels_fine w.state.chosen w.cells k.enough k.whole) at e)
     where
-      go : (t : Bool) → ¬ (call_number (cond t CallAnswer.Done (CallAnswer.Refused R.Picture)) ≡ 8)
+      go : (t : Bool) → ¬ (call_number (cond t (Ok tt) (Err R.Picture)) ≡ 8)
       go true f = omega arith
       go false f = omega arith
 
   -- the pixels are counted
-  pub counts_answered : counts_answer w.state w.cells ≡ CountsAnswer.Of (counts_of w.state w.cells)
+  pub counts_answered : counts_answer w.state w.cells ≡ Ok (counts_of w.state w.cells)
   unfolding counts_answer
   counts_answered = rw (own_ring, enough_test, pixels_fine w.state.chosen w.cells k.enough k.whole)
 

@@ -1,5 +1,6 @@
 -- Where the queued blocks lie in a picture with x or y and no parameter: a block's children lie in the quarters of its place, in `theory`'s order.
 -- Assumes nothing.
+use Rattle.std.specs.Prelude.{Some, None}
 use mathlib.Core.Path.{◌≡◌, refl}
 use mathlib.Core.Bool.{true, false, ◌&&◌, false≢true}
 use mathlib.Core.List.{List, [], ◌∷◌}
@@ -12,7 +13,6 @@ use Rattle.theory.specs.Shapes.{quarters}
 use Rattle.coordinate.specs.Axis.{ordinary_floor}
 use Rattle.queue.specs.declared.Block.{Block}
 use Rattle.queue.specs.declared.directions.Direction.TheVariants as D
-use Rattle.queue.specs.declared.directions.DirectionAt.TheVariants as A
 use Rattle.queue.specs.Directions.{used_of, directions, direction_at}
 use Rattle.decide.specs.declared.Chosen.{Chosen}
 use Rattle.decide.specs.Damage.{sound, direction_of, direction_right}
@@ -35,13 +35,13 @@ plane_directions : (p : Chosen) → PlaneOnly p → directions p.set ≡ D.XY �
 unfolding directions used_of
 plane_directions p o = rw (o.plane, o.no_parameter.0, o.no_parameter.1.0, o.no_parameter.1.1.0, o.no_parameter.1.1.1.0)
 
-pub plane_along : (p : Chosen) (b : Block) → PlaneOnly p → sound p b ≡ true → direction_of p b ≡ A.Along D.XY
+pub plane_along : (p : Chosen) (b : Block) → PlaneOnly p → sound p b ≡ true → direction_of p b ≡ Some D.XY
 plane_along p b o ok = go b.dir refl (is_sound p b ok).block.directed
   where
-    go : (n : ℕ) → b.dir ≡ n → direction_right p b (direction_of p b) ≡ true → direction_at (directions p.set) b.dir ≡ A.Along D.XY
+    go : (n : ℕ) → b.dir ≡ n → direction_right p b (direction_of p b) ≡ true → direction_at (directions p.set) b.dir ≡ Some D.XY
     go zero e r = unfold direction_at in rw (plane_directions p o, e)
     go (suc n) e r =
-        let d : direction_of p b ≡ A.Beyond = unfold direction_at in rw (plane_directions p o, e) in
+        let d : direction_of p b ≡ None = unfold direction_at in rw (plane_directions p o, e) in
         let f : eqb (length (directions p.set)) 0 && eqb b.dir 0 ≡ true = rw d at r in
         let g : false ≡ true = rw (plane_directions p o) at f in
         absurd (false≢true g)

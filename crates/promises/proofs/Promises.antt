@@ -13,6 +13,7 @@ use mathlib.Core.List.{List, [], ◌∷◌, map, ◌++◌}
 use Prim.Native.Nat.{ℕ, suc, ◌+◌, ◌*◌, ◌^◌, ◌≤◌, ◌<◌}
 use lib.Dec.{T}
 use lib.ListN.{length, take, get_or}
+use Rattle.std.specs.Prelude.{Result, Ok, Err}
 use Rattle.base.specs.Lists.{Every, Some}
 use Rattle.refusal.specs.declared.Refusal.{Refusal}
 use Rattle.interval.specs.Bounds.{InFormat}
@@ -28,14 +29,11 @@ use Rattle.queue.specs.declared.Block.{Block}
 use Rattle.decide.specs.declared.Chosen.{Chosen}
 use Rattle.implicit.specs.declared.state.Ranges.{Ranges}
 use Rattle.implicit.specs.declared.state.State.{State}
-use Rattle.implicit.specs.declared.state.SetupAnswer.{SetupAnswer}
-use Rattle.implicit.specs.declared.state.StepAnswer.{StepAnswer}
 use Rattle.implicit.specs.declared.state.Ending.{Ending}
-use Rattle.implicit.specs.declared.state.RunAnswer.{RunAnswer}
-use Rattle.implicit.specs.declared.state.MoveAnswer.{MoveAnswer}
-use Rattle.implicit.specs.declared.state.CallAnswer.{CallAnswer}
 use Rattle.implicit.specs.declared.state.Tally.{Tally}
-use Rattle.implicit.specs.declared.state.CountsAnswer.TheVariants as CountsAnswer
+use Rattle.implicit.specs.declared.state.Refused.{Refused}
+use Rattle.implicit.specs.declared.state.Finished.{Finished}
+use Rattle.implicit.specs.declared.state.Ended.{Ended}
 use Rattle.implicit.specs.Record.{pixel_count}
 use Rattle.implicit.specs.Setup.{start_level, cleared, setup_answer, ring_begun, cells_begun}
 use Rattle.implicit.specs.Step.{World, world_of, finished, step_of, step_answer, EndsAs}
@@ -44,7 +42,6 @@ use Rattle.implicit.specs.View.{picture_left, picture_answer, if_done, counts_an
 use Rattle.refusal.specs.Number.{number}
 use Rattle.queue.specs.Ring.{content}
 use Rattle.queue.specs.Queue.{queue_codes}
-use Rattle.implicit.specs.declared.state.NeededAnswer.TheVariants as N
 use Rattle.implicit.specs.Room.{enough_bytes, enough_ring}
 use Rattle.implicit.specs.Move.{moved_world, not_moved, moved, move_of, MovesAs}
 use Rattle.implicit.specs.Answers.{step_number, call_number}
@@ -81,37 +78,37 @@ use Rattle.promises.proofs.Screen.{white_shown, white_both, run_sums}
 -- the cells; r is the answer. The hypotheses are the `ensures` of `setup`, `step` and `run`, and what they say then is what the promises ask for
 
 -- setup, where it answers a record: a chart is begun. (The bounds handed in are values of f64, as every f64 is; the reserved bytes are read as 0.)
-pub setup_answered : (chosen : Chosen) (ranges : Ranges) (ring cells ring' cells' : List ℕ) (r : SetupAnswer)
+pub setup_answered : (chosen : Chosen) (ranges : Ranges) (ring cells ring' cells' : List ℕ) (r : Result State Refusal)
     → InFormat ranges.m × InFormat ranges.n × InFormat ranges.theta × InFormat ranges.t
     → r ≡ setup_answer (cleared chosen) ranges (length ring) (length cells)
     → ring' ≡ ring_begun (cleared chosen) ranges ring cells
     → cells' ≡ cells_begun (cleared chosen) ranges ring cells
-    → (s : State) → r ≡ SetupAnswer.Ready s → BegunAs (asked_by chosen ranges ring cells) (world_of s ring' cells')
+    → (s : State) → r ≡ Ok s → BegunAs (asked_by chosen ranges ring cells) (world_of s ring' cells')
 setup_answered = setup_begins
 
 -- step, where it answers that it is finished: one step more, under these verdicts, at so many evaluations;
-pub step_answered : (s : State) (ring cells verdicts ring' cells' : List ℕ) (r : StepAnswer)
+pub step_answered : (s : State) (ring cells verdicts ring' cells' : List ℕ) (r : Result Finished Refused)
     → EndsAs (world_of s ring cells) (step_of (world_of s ring cells) verdicts) r ring' cells'
-    → (s' : State) (evals bytes : ℕ) → r ≡ StepAnswer.Finished s' evals bytes → {n : ℕ} {w₀ : World} (c : Steps n w₀ (world_of s ring cells))
+    → (s' : State) (evals bytes : ℕ) → r ≡ Ok (record { state = s'; evaluations = evals; verdicts = bytes }) → {n : ℕ} {w₀ : World} (c : Steps n w₀ (world_of s ring cells))
     → (d : Steps (suc n) w₀ (world_of s' ring' cells')) × (verdicts_of d ≡ verdicts_of c ++ verdicts) × (evaluations_of d ≡ evaluations_of c + evals)
 step_answered = step_counts
 
 -- where it answers a refusal, the record, the ring and the cells are those given, so the next step goes on from there
-pub step_refused : (s : State) (ring cells verdicts ring' cells' : List ℕ) (r : StepAnswer)
+pub step_refused : (s : State) (ring cells verdicts ring' cells' : List ℕ) (r : Result Finished Refused)
     → EndsAs (world_of s ring cells) (step_of (world_of s ring cells) verdicts) r ring' cells'
-    → (why : Refusal) (s' : State) → r ≡ StepAnswer.Refused why s' → world_of s' ring' cells' ≡ world_of s ring cells
+    → (why : Refusal) (s' : State) → r ≡ Err (record { why = why; state = s' }) → world_of s' ring' cells' ≡ world_of s ring cells
 step_refused = step_keeps_all
 
 -- run, where it answers how it ended: it is the run that `run_reaches`, further down, takes apart into steps
-pub run_answered : (s : State) (ring cells tape ring' cells' : List ℕ) (budget : ℕ) (r : RunAnswer)
+pub run_answered : (s : State) (ring cells tape ring' cells' : List ℕ) (budget : ℕ) (r : Result Ended Refused)
     → RunsAs (world_of s ring cells) (run_of budget (world_of s ring cells) tape) r ring' cells'
-    → (s' : State) (steps evals bytes : ℕ) (ending : Ending) → r ≡ RunAnswer.Ended s' steps evals bytes ending
+    → (s' : State) (steps evals bytes : ℕ) (ending : Ending) → r ≡ Ok (record { state = s'; steps = steps; evaluations = evals; tape = bytes; ending = ending })
     → run_of budget (world_of s ring cells) tape ≡ has_run (ran_to s' ring' cells' steps evals bytes ending)
 run_answered = run_ends
 
 -- move_queue, where it answers a record: the chart is moved, with the cells that it has
-pub move_answered : (s : State) (ring cells other other' : List ℕ) (r : MoveAnswer) → MovesAs s ring other r other'
-    → (s' : State) → r ≡ MoveAnswer.Done s' → MovesTo (world_of s ring cells) (world_of s' other' cells)
+pub move_answered : (s : State) (ring cells other other' : List ℕ) (r : Result State Refused) → MovesAs s ring other r other'
+    → (s' : State) → r ≡ Ok s' → MovesTo (world_of s ring cells) (world_of s' other' cells)
 move_answered = move_moves
 
 module _ (a : Asked) {w₀ : World} (z : BegunAs a w₀) where
@@ -180,7 +177,7 @@ module _ (a : Asked) {w₀ : World} (z : BegunAs a w₀) where
   runs_past_six = six_stops_none a z
 
   -- they are the bytes that `enough_ring` answers,
-  pub enough_answered : (n : ℕ) → enough_ring a.chosen a.ranges n ≡ N.Bytes (enough_bytes a.chosen a.ranges n)
+  pub enough_answered : (n : ℕ) → enough_ring a.chosen a.ranges n ≡ Ok (enough_bytes a.chosen a.ranges n)
   enough_answered = ring_answered a z
 
   -- and without a move the ring is as long as the setup's
@@ -303,7 +300,7 @@ module _ (a : Asked) {w₀ : World} (z : BegunAs a w₀) where
 
 -- ---- THE SHARE, whatever record and cells the counts were asked of: where they are answered, it is 1000 exactly if the pixels that read True and those that
 -- read False are all of them
-pub share_says : (s : State) (cells : List ℕ) (t : Tally) → counts_answer s cells ≡ CountsAnswer.Of t
+pub share_says : (s : State) (cells : List ℕ) (t : Tally) → counts_answer s cells ≡ Ok t
     → (t.share ≡ 1000) ↔ (t.trues + t.falses ≡ pixel_count s.chosen)
 share_says = settled_all
 
@@ -352,7 +349,7 @@ module _ (M : Measures) (Solves : Mix M → Type 0) (a : Asked) {w₀ : World} (
   -- byte 0 at the pixel's index of the picture: after any finished steps a call of `picture` with room for every pixel is done, by what it ensures, and
   -- where the buffer then holds 0 the pixel holds no solution
   pub white_on_screen : {n : ℕ} {w : World} (r : Steps n w₀ w) → EveryAnswer a.chosen (FalseRight (covers_in a.chosen) Q) r
-      → (out out' : List ℕ) (d : CallAnswer) → pixel_count a.chosen ≤ length out
+      → (out out' : List ℕ) (d : Result (Unit {0}) Refusal) → pixel_count a.chosen ≤ length out
       → d ≡ picture_answer w.state w.cells (length out)
       → out' ≡ if_done d (picture_left w.state w.cells out) out
       → (q : Pixel a.chosen) → get_or out' (cell_index a.chosen.width a.chosen.height q.x q.y) 0 ≡ 0 → ¬ HasSolution Q q
@@ -361,7 +358,7 @@ module _ (M : Measures) (Solves : Mix M → Type 0) (a : Asked) {w₀ : World} (
   -- so after a run of any budget, whatever its ending: of the false verdicts that it took from its tape
   pub white_after_run : (budget : ℕ) (tape : List ℕ) (e : RunEnd) (h : run_of budget w₀ tape ≡ has_run e)
       → EveryAnswer a.chosen (FalseRight (covers_in a.chosen) Q) (run_reaches budget w₀ tape e h).0
-      → (out out' : List ℕ) (d : CallAnswer) → pixel_count a.chosen ≤ length out
+      → (out out' : List ℕ) (d : Result (Unit {0}) Refusal) → pixel_count a.chosen ≤ length out
       → d ≡ picture_answer e.world.state e.world.cells (length out)
       → out' ≡ if_done d (picture_left e.world.state e.world.cells out) out
       → (q : Pixel a.chosen) → get_or out' (cell_index a.chosen.width a.chosen.height q.x q.y) 0 ≡ 0 → ¬ HasSolution Q q

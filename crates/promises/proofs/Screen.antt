@@ -6,6 +6,7 @@ use mathlib.Core.List.{List}
 use Prim.Native.Nat.{ℕ, ◌*◌, ◌≤◌}
 use native.Mathlib.Omega.{arith}
 use lib.ListN.{length, get_or}
+use Rattle.std.specs.Prelude.{Result, Ok}
 use Rattle.image.specs.declared.Reading.{Reading}
 use Rattle.image.specs.declared.Reading.TheVariants as Reads
 use Rattle.image.specs.Cell.{byte_of}
@@ -13,8 +14,6 @@ use Rattle.image.specs.Range.{cell_index}
 use Rattle.queue.specs.declared.Block.{Block}
 use Rattle.theory.specs.Colours.{Question, HasSolution, FalseRight}
 use Rattle.decide.specs.declared.Chosen.{Chosen}
-use Rattle.implicit.specs.declared.state.CallAnswer.{CallAnswer}
-use Rattle.implicit.specs.declared.state.CallAnswer.TheVariants as D
 use Rattle.implicit.specs.Record.{pixel_count}
 use Rattle.implicit.specs.Step.{World}
 use Rattle.implicit.specs.Run.{RunEnd, has_run, run_of}
@@ -29,6 +28,7 @@ use Rattle.promises.proofs.Drawing.{drawn}
 use Rattle.promises.proofs.NeverDamaged.{picture_drawn}
 use Rattle.promises.proofs.RunSteps.{has_run_lem}
 use Rattle.promises.proofs.ColoursHold.{white_none}
+use Rattle.refusal.specs.declared.Refusal.{Refusal}
 
 -- byte 0 is False
 zero_false : (r : Reading) → byte_of r ≡ 0 → r ≡ Reads.False
@@ -37,12 +37,12 @@ zero_false Reads.Uncertain e = absurd (omega (arith, e))
 zero_false Reads.True e = absurd (omega (arith, e))
 
 -- a call of picture, with room for every pixel: by what it ensures, the buffer holds the picture
-pub screen_drawn : (p : Chosen) (w : World) → Reached p w → (out out' : List ℕ) (r : CallAnswer) → pixel_count p ≤ length out
+pub screen_drawn : (p : Chosen) (w : World) → Reached p w → (out out' : List ℕ) (r : Result (Unit {0}) Refusal) → pixel_count p ≤ length out
     → r ≡ picture_answer w.state w.cells (length out) → out' ≡ if_done r (picture_left w.state w.cells out) out → (q : Pixel p)
-    → (r ≡ D.Done) × (get_or out' (cell_index p.width p.height q.x q.y) 0 ≡ byte_of (reads_in p w q))
+    → (r ≡ Ok tt) × (get_or out' (cell_index p.width p.height q.x q.y) 0 ≡ byte_of (reads_in p w q))
 screen_drawn p w h out out' r room answer screen q =
-    let done : r ≡ D.Done = answer ∙ picture_drawn w h.blocks h.keeps (length out) (rw h.chosen room) in
-    let left : out' ≡ picture_left w.state w.cells out = screen ∙ ap (λ (d : CallAnswer). if_done d (picture_left w.state w.cells out) out) done in
+    let done : r ≡ Ok tt = answer ∙ picture_drawn w h.blocks h.keeps (length out) (rw h.chosen room) in
+    let left : out' ≡ picture_left w.state w.cells out = screen ∙ ap (λ (d : Result (Unit {0}) Refusal). if_done d (picture_left w.state w.cells out) out) done in
     (done, ap (λ (l : List ℕ). get_or l (cell_index p.width p.height q.x q.y) 0) left ∙ (drawn p w h out room q).1)
 
 module _ (M : Measures) (Solves : Mix M → Type 0) (a : Asked) {w₀ : World} (z : BegunAs a w₀) where
@@ -55,7 +55,7 @@ module _ (M : Measures) (Solves : Mix M → Type 0) (a : Asked) {w₀ : World} (
   abbrev Right : {n : ℕ} {w : World} → Steps n w₀ w → Type 0
   Right r = EveryAnswer p (FalseRight (covers_in p) Q) r
 
-  pub white_shown : {n : ℕ} {w : World} (r : Steps n w₀ w) → Right r → (out out' : List ℕ) (d : CallAnswer) → pixel_count p ≤ length out
+  pub white_shown : {n : ℕ} {w : World} (r : Steps n w₀ w) → Right r → (out out' : List ℕ) (d : Result (Unit {0}) Refusal) → pixel_count p ≤ length out
       → d ≡ picture_answer w.state w.cells (length out) → out' ≡ if_done d (picture_left w.state w.cells out) out → (q : Pixel p)
       → get_or out' (cell_index p.width p.height q.x q.y) 0 ≡ 0 → ¬ HasSolution Q q
   white_shown {n} {w} r right out out' d room answer screen q e =

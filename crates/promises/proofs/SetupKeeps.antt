@@ -9,6 +9,8 @@ use lib.Dec.{T, leb, ltb}
 use lib.ListN.{length}
 use lib.ListN as L
 use borrow.Author.Tests.{lt-ltb, ne_eqb}
+use Rattle.std.specs.Prelude.{Result, Ok, Err}
+use Rattle.refusal.specs.declared.Refusal.{Refusal}
 use Rattle.base.proofs.Test.{cases, and_both, ≡→T}
 use Rattle.base.specs.Lists.{Every}
 use Rattle.base.proofs.ListLaws.{every_also}
@@ -33,7 +35,6 @@ use Rattle.decide.specs.declared.Chosen.{Chosen}
 use Rattle.decide.specs.Damage.{legal_side, undamaged}
 use Rattle.implicit.specs.declared.state.State.{State}
 use Rattle.implicit.specs.declared.state.Ranges.{Ranges}
-use Rattle.implicit.specs.declared.state.SetupAnswer.TheVariants as S
 use Rattle.implicit.specs.Record.{pixel_count}
 use Rattle.implicit.specs.Setup.{first_blocks, first_bytes, ranges_legal, setup_refusal, start_record, start_ring, start_cells, setup_answer, ring_begun, cells_begun}
 use Rattle.implicit.specs.Step.{World, world_of}
@@ -57,17 +58,17 @@ pub record Begins (p : Chosen) (r : Ranges) (ring cells : List ℕ) (s : State) 
   pub ring_is : ring_begun p r ring cells ≡ start_ring p r ring
   pub cells_are : cells_begun p r ring cells ≡ start_cells p r cells
 
-refused_not : {P : Type 0} (why : _) (s : State) → S.Refused why ≡ S.Ready s → P
+refused_not : {P : Type 0} (why : Refusal) (s : State) → ◌≡◌ {A = Result State Refusal} (Err why) (Ok s) → P
 refused_not why s e = let z : ◌≡◌ {A = ℕ} 0 1 = cc in absurd (omega arith)
 
-pub begins : (p : Chosen) (r : Ranges) (ring cells : List ℕ) (s : State) → setup_answer p r (length ring) (length cells) ≡ S.Ready s → Begins p r ring cells s
+pub begins : (p : Chosen) (r : Ranges) (ring cells : List ℕ) (s : State) → setup_answer p r (length ring) (length cells) ≡ Ok s → Begins p r ring cells s
 unfolding setup_answer setup_refusal ring_begun cells_begun
 begins p r ring cells s e =
     cases (legal_side p.width && legal_side p.height)
     (λ i. cases (leb (pixel_count p) (length cells))
     (λ j. cases (ranges_legal p.set r)
     (λ k. cases (leb (length (first_bytes p r)) (length ring))
-    (λ l. (let h : S.Ready (start_record p r (length ring)) ≡ S.Ready s = rw (i, j, k, l) at e in
+    (λ l. (let h : Ok (start_record p r (length ring)) ≡ Ok s = rw (i, j, k, l) at e in
     let g : start_record p r (length ring) ≡ s = cc in
     record { passed = accepted p r (length ring) (length cells) (rw (i, j, k, l)); state = sym g; ring_is = rw (i, j, k, l); cells_are = rw (i, j, k, l) }))
     (λ l. refused_not _ s (rw (i, j, k, l) at e)))

@@ -6,6 +6,7 @@ use mathlib.Core.List.{List}
 use Prim.Native.Nat.{ℕ, ◌+◌, ◌≤◌}
 use lib.ListN.{length}
 use lib.ListN as L
+use Rattle.std.specs.Prelude.{Ok}
 use Rattle.image.specs.declared.Reading.{Reading}
 use Rattle.image.specs.declared.Reading.TheVariants as R
 use Rattle.image.specs.Cell.{Cell, meaning_of, meanings, reading, count_of, is_uncertain, tallied}
@@ -14,7 +15,6 @@ use Rattle.image.proofs.BlockLaws.{whole_every}
 use Rattle.decide.specs.declared.Chosen.{Chosen}
 use Rattle.implicit.specs.declared.state.State.{State}
 use Rattle.implicit.specs.declared.state.Tally.{Tally}
-use Rattle.implicit.specs.declared.state.CountsAnswer.TheVariants as CountsAnswer
 use Rattle.implicit.specs.Record.{pixel_count, pixel_cells}
 use Rattle.implicit.specs.Step.{World}
 use Rattle.implicit.specs.View.{counts_from, counts_of, counts_answer}
@@ -26,7 +26,7 @@ use Rattle.promises.proofs.NeverDamaged.{own_ring, counts_answered}
 use Rattle.promises.proofs.Linked.{begun_reached, steps_reached}
 
 -- of any record and cells that the counts are answered for
-pub settled_all : (s : State) (cells : List ℕ) (t : Tally) → counts_answer s cells ≡ CountsAnswer.Of t
+pub settled_all : (s : State) (cells : List ℕ) (t : Tally) → counts_answer s cells ≡ Ok t
     → (t.share ≡ 1000) ↔ (t.trues + t.falses ≡ pixel_count s.chosen)
 settled_all s cells t e = let (v, f) = counted_viewable s cells t e in rw f (counts_settled s cells v.record_sound v.enough)
 

@@ -1,5 +1,6 @@
 -- The blocks that a step queues are siblings: a cut of x and y makes four at most, whose indices have one half, and leaves every parameter; a cut of a
 -- parameter makes three at most, and leaves all but that one. So what a step adds to the bytes used is bounded. Assumes nothing.
+use Rattle.std.specs.Prelude.{Option, Some, None}
 use mathlib.Core.Path.{◌≡◌, refl, ap, ◌∙◌}
 use mathlib.Core.Bool.{true, cond}
 use mathlib.Core.List.{List, [], ◌∷◌}
@@ -23,8 +24,6 @@ use Rattle.interval.specs.Cuts.{later_cut}
 use Rattle.queue.specs.declared.Block.{Block}
 use Rattle.queue.specs.declared.directions.Direction.{Direction}
 use Rattle.queue.specs.declared.directions.Direction.TheVariants as D
-use Rattle.queue.specs.declared.directions.DirectionAt.{DirectionAt}
-use Rattle.queue.specs.declared.directions.DirectionAt.TheVariants as A
 use Rattle.queue.specs.Directions.{in_use}
 use Rattle.queue.specs.Block.{is_integer, parameter_of, with_parameter}
 use Rattle.decide.specs.declared.Chosen.{Chosen}
@@ -173,13 +172,13 @@ module _ (p : Chosen) (b : Block) (ok : sound p b ≡ true) where
       quarter : {c : Block} → QuarterOf b c → ((e : Direction) → parameter_of c e ≡ parameter_of b e) → Quarter c
       quarter z s = record { x = z.x_index; y = z.y_index; same = λ e n. s e }
 
-  by_direction : (a : DirectionAt) → direction_of p b ≡ a → Siblings p.set b (children_along p b a)
-  by_direction (A.Along D.XY) e = quartered (omega (arith, ltb-true ordinary_floor b.x.rank (cut_along p b D.XY ok e refl)))
-  by_direction (A.Along D.M) e = pieces D.M refl (direction_in_use p b D.M e)
-  by_direction (A.Along D.N) e = pieces D.N refl (direction_in_use p b D.N e)
-  by_direction (A.Along D.Theta) e = pieces D.Theta refl (direction_in_use p b D.Theta e)
-  by_direction (A.Along D.T) e = pieces D.T refl (direction_in_use p b D.T e)
-  by_direction A.Beyond e = record {
+  by_direction : (a : Option Direction) → direction_of p b ≡ a → Siblings p.set b (children_along p b a)
+  by_direction (Some D.XY) e = quartered (omega (arith, ltb-true ordinary_floor b.x.rank (cut_along p b D.XY ok e refl)))
+  by_direction (Some D.M) e = pieces D.M refl (direction_in_use p b D.M e)
+  by_direction (Some D.N) e = pieces D.N refl (direction_in_use p b D.N e)
+  by_direction (Some D.Theta) e = pieces D.Theta refl (direction_in_use p b D.Theta e)
+  by_direction (Some D.T) e = pieces D.T refl (direction_in_use p b D.T e)
+  by_direction None e = record {
     along = D.XY;
     i = b.x.index / 2;
     j = b.y.index / 2;

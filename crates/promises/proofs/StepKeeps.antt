@@ -1,4 +1,6 @@
 -- A finished step keeps the invariant: what it takes and what it leaves, in terms of the blocks that wait. Assumes nothing.
+use Rattle.queue.specs.Queue.{front_taken}
+use Rattle.queue.specs.Answers.{taken_block, taken_last, taken_head, taken_used}
 use mathlib.Core.Path.{◌≡◌, sym, ap, ◌∙◌}
 use mathlib.Core.Bool.{true, false}
 use mathlib.Core.List.{List, [], ◌∷◌, ◌++◌}
@@ -15,7 +17,6 @@ use Rattle.base.proofs.ListLaws.{every_also, every_append}
 use Rattle.image.specs.Cell.{meanings, meaning_of}
 use Rattle.queue.specs.declared.Block.{Block}
 use Rattle.queue.specs.declared.Last.{Last}
-use Rattle.queue.specs.declared.Taken.TheVariants as T
 use Rattle.queue.specs.Block.{remembered}
 use Rattle.queue.specs.Ring.{content, fits_ring, wrapped, stored_behind}
 use Rattle.queue.specs.Queue.{queue_codes, memory}
@@ -49,11 +50,11 @@ pub took_front : (w : World) (c : Block) (rest : List Block) (k : Keeps w (c ∷
     → step_of w vs ≡ finished left evals bytes → TookFront w c rest k vs left
 took_front w c rest k vs left evals bytes e =
     let g = went false w vs left evals bytes e in
-    let f : T.Front g.block g.last g.head g.used ≡ T.Front c (remembered c) (head' w c rest k) (used' w c rest k) = sym g.front_read ∙ front_is w c rest k in
-    let b : g.block ≡ c = cc in
-    let l : g.last ≡ remembered c = cc in
-    let h : g.head ≡ head' w c rest k = cc in
-    let u : g.used ≡ used' w c rest k = cc in
+    let f : front_taken g.block g.last g.head g.used ≡ front_taken c (remembered c) (head' w c rest k) (used' w c rest k) = sym g.front_read ∙ front_is w c rest k in
+    let b : g.block ≡ c = ap taken_block f in
+    let l : g.last ≡ remembered c = ap taken_last f in
+    let h : g.head ≡ head' w c rest k = ap taken_head f in
+    let u : g.used ≡ used' w c rest k = ap taken_used f in
     let n : length vs ≡ length (children_of w.state.chosen c) = eqb-true (length vs) (length (children_of w.state.chosen c)) (rw b at g.enough) in
     let o : g.own ≡ vs = g.own_is ∙ take_all (length (children_of w.state.chosen g.block)) vs (rw b (omega arith)) in
     record {

@@ -8,6 +8,7 @@ use native.Mathlib.Omega.{arith}
 use lib.Dec.{ltb}
 use lib.ListN.{length, get_or}
 use borrow.Author.Tests.{leb-true, lt-ltb}
+use Rattle.std.specs.Prelude.{Result, Ok, Err}
 use Rattle.refusal.specs.declared.Refusal.{Refusal}
 use Rattle.interval.specs.Bounds.{InFormat}
 use Rattle.image.specs.Cell.{meanings}
@@ -17,13 +18,10 @@ use Rattle.tiles.proofs.RecountLaws.{number_counted}
 use Rattle.decide.specs.declared.Chosen.{Chosen}
 use Rattle.implicit.specs.declared.state.Ranges.{Ranges}
 use Rattle.implicit.specs.declared.state.State.{State}
-use Rattle.implicit.specs.declared.state.SetupAnswer.{SetupAnswer}
-use Rattle.implicit.specs.declared.state.SetupAnswer.TheVariants as S
-use Rattle.implicit.specs.declared.state.StepAnswer.{StepAnswer}
-use Rattle.implicit.specs.declared.state.StepAnswer.TheVariants as T
 use Rattle.implicit.specs.declared.state.Ending.{Ending}
-use Rattle.implicit.specs.declared.state.RunAnswer.{RunAnswer}
-use Rattle.implicit.specs.declared.state.RunAnswer.TheVariants as A
+use Rattle.implicit.specs.declared.state.Refused.{Refused}
+use Rattle.implicit.specs.declared.state.Finished.{Finished}
+use Rattle.implicit.specs.declared.state.Ended.{Ended}
 use Rattle.implicit.specs.Setup.{cleared}
 use Rattle.implicit.specs.Step.{World, world_of, StepEnd, refused, finished}
 use Rattle.implicit.specs.Run.{has_run}
@@ -39,29 +37,29 @@ use Rattle.promises.proofs.TableSteps.{within_tiles}
 use Rattle.promises.proofs.TableRuns.{run_tiled}
 
 -- SETUP
-pub tiled_setup_begins : (chosen : Chosen) (ranges : Ranges) (ring cells table ring' cells' table' : List ℕ) (r : SetupAnswer)
+pub tiled_setup_begins : (chosen : Chosen) (ranges : Ranges) (ring cells table ring' cells' table' : List ℕ) (r : Result State Refusal)
     → InFormat ranges.m × InFormat ranges.n × InFormat ranges.theta × InFormat ranges.t
     → r ≡ tiled_setup_answer (cleared chosen) ranges (length ring) (length cells) (length table)
     → ring' ≡ tiled_ring_begun (cleared chosen) ranges ring (length cells) (length table)
     → cells' ≡ tiled_cells_begun (cleared chosen) ranges (length ring) cells (length table)
     → table' ≡ table_begun (cleared chosen) ranges (length ring) cells table
-    → (s : State) → r ≡ S.Ready s → TiledBegunAs (asked_by chosen ranges ring cells) table (world_of s ring' cells') table'
+    → (s : State) → r ≡ Ok s → TiledBegunAs (asked_by chosen ranges ring cells) table (world_of s ring' cells') table'
 tiled_setup_begins chosen ranges ring cells table ring' cells' table' r held answer ring_left cells_left table_left s ready =
-    let e : tiled_setup_answer (cleared chosen) ranges (length ring) (length cells) (length table) ≡ S.Ready s = sym answer ∙ ready in
+    let e : tiled_setup_answer (cleared chosen) ranges (length ring) (length cells) (length table) ≡ Ok s = sym answer ∙ ready in
     record { accepted = ap setup_number e; state = ap setup_state e; ring = ring_left; cells = cells_left; table_left = table_left; held = held }
 
 -- STEP
 
 -- by a refusal the table is as it was
 refused_table : (w : World) (t : List ℕ) (e : StepEnd) (why : Refusal) (s : State) (ring cells left : List ℕ)
-    → TiledEndsAs w t e (T.Refused why s) ring cells left → left ≡ t
+    → TiledEndsAs w t e (Err (record { why = why; state = s })) ring cells left → left ≡ t
 unfolding table_after
 refused_table w t (refused reason) why s ring cells left h = h.1
 refused_table w t (finished next m n) why s ring cells left h = let f = h.0.0 in let z : ◌≡◌ {A = ℕ} 0 1 = cc in absurd (omega arith)
 
-module _ (s : State) (ring cells table verdicts ring' cells' table' : List ℕ) (r : StepAnswer)
+module _ (s : State) (ring cells table verdicts ring' cells' table' : List ℕ) (r : Result Finished Refused)
     (ensures : TiledEndsAs (world_of s ring cells) table (tiled_step_of (length table) (world_of s ring cells) verdicts) r ring' cells' table') where
-  pub tiled_step_counts : (s' : State) (evals bytes : ℕ) → r ≡ T.Finished s' evals bytes
+  pub tiled_step_counts : (s' : State) (evals bytes : ℕ) → r ≡ Ok (record { state = s'; evaluations = evals; verdicts = bytes })
       → {n : ℕ} {w₀ : World} {t₀ : List ℕ} → TiledSteps n w₀ t₀ (world_of s ring cells) table → TiledSteps (suc n) w₀ t₀ (world_of s' ring' cells') table'
   tiled_step_counts s' evals bytes e c =
       let w = world_of s ring cells in
@@ -69,16 +67,16 @@ module _ (s : State) (ring cells table verdicts ring' cells' table' : List ℕ) 
       answered_finished w (tiled_step_of (length table) w verdicts) s' evals bytes ring' cells' (rw e at ensures.0) in
       then_tiled_step c verdicts evals bytes ends (ensures.1 ∙ ap (table_after w table) ends)
 
-  pub tiled_step_keeps : (why : Refusal) (s' : State) → r ≡ T.Refused why s' → (world_of s' ring' cells' ≡ world_of s ring cells) × (table' ≡ table)
+  pub tiled_step_keeps : (why : Refusal) (s' : State) → r ≡ Err (record { why = why; state = s' }) → (world_of s' ring' cells' ≡ world_of s ring cells) × (table' ≡ table)
   tiled_step_keeps why s' e =
       let w = world_of s ring cells in
       let step = tiled_step_of (length table) w verdicts in
       ((answered_refused w step why s' ring' cells' (rw e at ensures.0)).1, refused_table w table step why s' ring' cells' table' (rw e at ensures))
 
 -- RUN
-pub tiled_run_ends : (s : State) (ring cells tape table ring' cells' table' : List ℕ) (budget : ℕ) (r : RunAnswer)
+pub tiled_run_ends : (s : State) (ring cells tape table ring' cells' table' : List ℕ) (budget : ℕ) (r : Result Ended Refused)
     → TiledRunsAs budget (world_of s ring cells) tape table (tiled_run_of budget (length table) (world_of s ring cells) tape) r ring' cells' table'
-    → (s' : State) (steps evals bytes : ℕ) (ending : Ending) → r ≡ A.Ended s' steps evals bytes ending
+    → (s' : State) (steps evals bytes : ℕ) (ending : Ending) → r ≡ Ok (record { state = s'; steps = steps; evaluations = evals; tape = bytes; ending = ending })
     → TiledSteps steps (world_of s ring cells) table (world_of s' ring' cells') table'
 tiled_run_ends s ring cells tape table ring' cells' table' budget r ensures s' steps evals bytes ending e =
     let w = world_of s ring cells in

@@ -1,5 +1,7 @@
 -- On a chart from an accepted setup: a tile that the taken block does not touch counts as before, so a table that equals a recount does so after every finished
 -- step that takes it. Assumes nothing.
+use Rattle.queue.specs.Queue.{front_taken}
+use Rattle.queue.specs.Answers.{taken_block}
 use mathlib.Core.Path.{◌≡◌, refl, sym, ap, ◌∙◌}
 use mathlib.Core.Bool.{Bool, true, false}
 use mathlib.Core.List.{List, [], ◌∷◌}
@@ -16,7 +18,6 @@ use Rattle.image.specs.Painting.{pixel_cell}
 use Rattle.image.proofs.RangeLaws.{cell_pixel, rectangle_covers}
 use Rattle.queue.specs.declared.Block.{Block}
 use Rattle.queue.specs.declared.Last.{Last}
-use Rattle.queue.specs.declared.Taken.TheVariants as T
 use Rattle.tiles.specs.Tiles.{tile_count, tile_at, touches, tile_tally, recounted_under}
 use Rattle.tiles.proofs.HeldLaws.{held_tally}
 use Rattle.tiles.proofs.PlaceLaws.{none_held, not_met, tile_pixel}
@@ -55,12 +56,12 @@ up_as (Other n) e = let z : ◌≡◌ {A = ℕ} 0 1 = cc in absurd (omega arith)
 
 -- THE FRONT BLOCK that a finished step took is the first one queued
 front_queued : (w : World) (q : List Block) → Keeps w q → (vs : List ℕ) (left : World) (evals bytes : ℕ) → step_of w vs ≡ finished left evals bytes
-    → (b : Block) (last : Last) (head used : ℕ) → front_of w.state w.ring ≡ T.Front b last head used → (rest : List Block) × (queued_blocks w ≡ b ∷ rest)
+    → (b : Block) (last : Last) (head used : ℕ) → front_of w.state w.ring ≡ front_taken b last head used → (rest : List Block) × (queued_blocks w ≡ b ∷ rest)
 front_queued w [] k vs left evals bytes e b last head used f =
     let g = step_empty w k false vs in let z : ◌≡◌ {A = ℕ} 0 1 = cc in absurd (omega arith)
 front_queued w (c ∷ rest) k vs left evals bytes e b last head used f =
     let g = front_is w c rest k in
-    let same : c ≡ b = cc in
+    let same : c ≡ b = ap taken_block (sym g ∙ f) in
     (rest, keeps_queue w (c ∷ rest) k ∙ ap (λ (d : Block). d ∷ rest) same)
 
 first_of : Block → List Block → Block
@@ -71,7 +72,7 @@ first_of d (b ∷ l) = b
 
 module _ (a : Asked) {w₀ : World} (z : BegunAs a w₀) {n : ℕ} {w : World} (r : Steps n w₀ w) (vs : List ℕ) (left : World) (evals bytes : ℕ)
     (e : step_of w vs ≡ finished left evals bytes) (b : Block) (last : Last) (head used : ℕ)
-    (front : front_of w.state w.ring ≡ T.Front b last head used) where
+    (front : front_of w.state w.ring ≡ front_taken b last head used) where
   abbrev p : Chosen
   p = a.chosen
 

@@ -5,27 +5,27 @@
 -- A tile's numbers are the table's from four times its own number on: True, False, Uncertain, given up. "Tiles at the right and bottom edge may be smaller":
 -- `tile_at` ends where the picture does.
 -- Assumes nothing.
+use Rattle.queue.specs.Queue.{front_taken}
 use mathlib.Core.Path.{◌≡◌, refl, ap, ◌∙◌}
 use mathlib.Core.Bool.{Bool, true, false}
 use mathlib.Core.List.{List}
 use Prim.Native.Nat.{ℕ, suc, ◌+◌, ◌*◌, ◌/◌, ◌%◌, ◌≤◌, ◌<◌}
 use lib.ListN.{length, get_or}
+use Rattle.std.specs.Prelude.{Result, Ok, Err}
 use Rattle.refusal.specs.declared.Refusal.{Refusal}
 use Rattle.refusal.specs.declared.Refusal.TheVariants as R
 use Rattle.interval.specs.Bounds.{InFormat}
 use Rattle.image.specs.Cell.{Named, meanings, is_damaged}
 use Rattle.queue.specs.declared.Block.{Block}
 use Rattle.queue.specs.declared.Last.{Last}
-use Rattle.queue.specs.declared.Taken.TheVariants as Taken
 use Rattle.tiles.specs.Tiles.{tiles_along, tile_count, touches, tile_tally, tile_number}
 use Rattle.decide.specs.declared.Chosen.{Chosen}
 use Rattle.implicit.specs.declared.state.Ranges.{Ranges}
 use Rattle.implicit.specs.declared.state.State.{State}
-use Rattle.implicit.specs.declared.state.SetupAnswer.{SetupAnswer}
-use Rattle.implicit.specs.declared.state.StepAnswer.{StepAnswer}
 use Rattle.implicit.specs.declared.state.Ending.{Ending}
-use Rattle.implicit.specs.declared.state.RunAnswer.{RunAnswer}
-use Rattle.implicit.specs.declared.state.CallAnswer.{CallAnswer}
+use Rattle.implicit.specs.declared.state.Refused.{Refused}
+use Rattle.implicit.specs.declared.state.Finished.{Finished}
+use Rattle.implicit.specs.declared.state.Ended.{Ended}
 use Rattle.implicit.specs.Record.{pixel_count, sound_record}
 use Rattle.implicit.specs.Setup.{cleared, setup_answer, ring_begun, cells_begun}
 use Rattle.implicit.specs.Listing.{front_of}
@@ -50,42 +50,42 @@ use Rattle.promises.proofs.TableAnswered.{tiled_setup_begins, tiled_step_counts,
 -- the cells
 
 -- setup, where it answers a record: a chart is begun, with a table;
-pub table_setup_answered : (chosen : Chosen) (ranges : Ranges) (ring cells table ring' cells' table' : List ℕ) (r : SetupAnswer)
+pub table_setup_answered : (chosen : Chosen) (ranges : Ranges) (ring cells table ring' cells' table' : List ℕ) (r : Result State Refusal)
     → InFormat ranges.m × InFormat ranges.n × InFormat ranges.theta × InFormat ranges.t
     → r ≡ tiled_setup_answer (cleared chosen) ranges (length ring) (length cells) (length table)
     → ring' ≡ tiled_ring_begun (cleared chosen) ranges ring (length cells) (length table)
     → cells' ≡ tiled_cells_begun (cleared chosen) ranges (length ring) cells (length table)
     → table' ≡ table_begun (cleared chosen) ranges (length ring) cells table
-    → (s : State) → r ≡ SetupAnswer.Ready s → TiledBegunAs (asked_by chosen ranges ring cells) table (world_of s ring' cells') table'
+    → (s : State) → r ≡ Ok s → TiledBegunAs (asked_by chosen ranges ring cells) table (world_of s ring' cells') table'
 table_setup_answered = tiled_setup_begins
 
 -- step, where it answers that it is finished: one step more that took the table as the call before left it;
-pub table_step_answered : (s : State) (ring cells table verdicts ring' cells' table' : List ℕ) (r : StepAnswer)
+pub table_step_answered : (s : State) (ring cells table verdicts ring' cells' table' : List ℕ) (r : Result Finished Refused)
     → TiledEndsAs (world_of s ring cells) table (tiled_step_of (length table) (world_of s ring cells) verdicts) r ring' cells' table'
-    → (s' : State) (evals bytes : ℕ) → r ≡ StepAnswer.Finished s' evals bytes
+    → (s' : State) (evals bytes : ℕ) → r ≡ Ok (record { state = s'; evaluations = evals; verdicts = bytes })
     → {n : ℕ} {w₀ : World} {t₀ : List ℕ} → TiledSteps n w₀ t₀ (world_of s ring cells) table → TiledSteps (suc n) w₀ t₀ (world_of s' ring' cells') table'
 table_step_answered = tiled_step_counts
 
 -- where it answers a refusal, all is as it was, the table too
-pub table_step_refused : (s : State) (ring cells table verdicts ring' cells' table' : List ℕ) (r : StepAnswer)
+pub table_step_refused : (s : State) (ring cells table verdicts ring' cells' table' : List ℕ) (r : Result Finished Refused)
     → TiledEndsAs (world_of s ring cells) table (tiled_step_of (length table) (world_of s ring cells) verdicts) r ring' cells' table'
-    → (why : Refusal) (s' : State) → r ≡ StepAnswer.Refused why s' → (world_of s' ring' cells' ≡ world_of s ring cells) × (table' ≡ table)
+    → (why : Refusal) (s' : State) → r ≡ Err (record { why = why; state = s' }) → (world_of s' ring' cells' ≡ world_of s ring cells) × (table' ≡ table)
 table_step_refused = tiled_step_keeps
 
 -- run, where it answers how it ended: as many steps more, each with the table that the step before it left
-pub table_run_answered : (s : State) (ring cells tape table ring' cells' table' : List ℕ) (budget : ℕ) (r : RunAnswer)
+pub table_run_answered : (s : State) (ring cells tape table ring' cells' table' : List ℕ) (budget : ℕ) (r : Result Ended Refused)
     → TiledRunsAs budget (world_of s ring cells) tape table (tiled_run_of budget (length table) (world_of s ring cells) tape) r ring' cells' table'
-    → (s' : State) (steps evals bytes : ℕ) (ending : Ending) → r ≡ RunAnswer.Ended s' steps evals bytes ending
+    → (s' : State) (steps evals bytes : ℕ) (ending : Ending) → r ≡ Ok (record { state = s'; steps = steps; evaluations = evals; tape = bytes; ending = ending })
     → TiledSteps steps (world_of s ring cells) table (world_of s' ring' cells') table'
 table_run_answered = tiled_run_ends
 
 -- A REFUSED CALL LEAVES THE TABLE as it was: a setup, and a run; of a step it stands above, and of the call that fills a table below
 pub table_setup_refused : (p : Chosen) (r : Ranges) (ring cells table : List ℕ) (why : Refusal)
-    → tiled_setup_answer p r (length ring) (length cells) (length table) ≡ SetupAnswer.Refused why → table_begun p r (length ring) cells table ≡ table
+    → tiled_setup_answer p r (length ring) (length cells) (length table) ≡ Err why → table_begun p r (length ring) cells table ≡ table
 table_setup_refused = setup_keeps
 
-pub table_run_refused : (budget : ℕ) (w : World) (tape table : List ℕ) (a : RunResult) (r : RunAnswer) (ring' cells' table' : List ℕ)
-    → TiledRunsAs budget w tape table a r ring' cells' table' → (why : Refusal) (s' : State) → r ≡ RunAnswer.Refused why s' → table' ≡ table
+pub table_run_refused : (budget : ℕ) (w : World) (tape table : List ℕ) (a : RunResult) (r : Result Ended Refused) (ring' cells' table' : List ℕ)
+    → TiledRunsAs budget w tape table a r ring' cells' table' → (why : Refusal) (s' : State) → r ≡ Err (record { why = why; state = s' }) → table' ≡ table
 table_run_refused = run_keeps
 
 -- ---- THE TABLE EQUALS A RECOUNT
@@ -135,7 +135,7 @@ table_given_up = recount_given_up
 -- ---- WHAT A STEP CHANGES OF IT, whatever the world and the table are: a finished step took the block b, the first in the queue
 
 module _ (w : World) (t vs : List ℕ) (left : World) (evals bytes : ℕ) (e : tiled_step_of (length t) w vs ≡ finished left evals bytes)
-    (b : Block) (last : Last) (head used : ℕ) (front : front_of w.state w.ring ≡ Taken.Front b last head used) where
+    (b : Block) (last : Last) (head used : ℕ) (front : front_of w.state w.ring ≡ front_taken b last head used) where
   -- ".. and a step changes no tile that the taken block doesn't touch",
   pub table_elsewhere : (i k : ℕ) → touches w.state.chosen.width w.state.chosen.height (covered_by w.state.chosen b) i ≡ false → k < 4
       → get_or (table_after w t (finished left evals bytes)) (4 * i + k) 0 ≡ get_or t (4 * i + k) 0
@@ -168,7 +168,7 @@ table_stays_long w t left evals bytes = table_length w t (finished left evals by
 -- covers a pixel, a damaged cell i of a pixel in a tile that the block touches refuses the step. The tile's number is that of its column and row
 pub touched_eight : (room : ℕ) (w : World) (b : Block) (last : Last) (head used : ℕ) → sound_record (length w.ring) w.state ≡ true
     → pixel_count w.state.chosen ≤ length w.cells → room_for_tiles w.state.chosen room ≡ true → w.state.taken < w.state.queued
-    → front_of w.state w.ring ≡ Taken.Front b last head used
+    → front_of w.state w.ring ≡ front_taken b last head used
     → (covered_by w.state.chosen b).left < (covered_by w.state.chosen b).right
     → (covered_by w.state.chosen b).top < (covered_by w.state.chosen b).bottom
     → (i : ℕ) → i < w.state.chosen.width * w.state.chosen.height
@@ -214,16 +214,16 @@ pub tiled_run_reaches : (budget : ℕ) (w : World) (tape t : List ℕ) (e : RunE
 tiled_run_reaches = run_tiled
 
 -- ---- A TABLE FILLED from a record and its cells, where the call is done, equals a recount;
-pub table_filled_lem : (w : World) (t t' : List ℕ) (r : CallAnswer) → r ≡ fill_answer w.state w.cells (length t)
-    → t' ≡ if_done r (table_filled w.state w.cells t) t → r ≡ CallAnswer.Done → EqualsRecount w.state.chosen w t'
+pub table_filled_lem : (w : World) (t t' : List ℕ) (r : Result (Unit {0}) Refusal) → r ≡ fill_answer w.state w.cells (length t)
+    → t' ≡ if_done r (table_filled w.state w.cells t) t → r ≡ Ok tt → EqualsRecount w.state.chosen w t'
 table_filled_lem = filled_recount
 
 -- where it is refused, the table is as it was
-pub table_fill_refused : (s : State) (cells t t' : List ℕ) (r : CallAnswer) → t' ≡ if_done r (table_filled s cells t) t
-    → (why : Refusal) → r ≡ CallAnswer.Refused why → t' ≡ t
-table_fill_refused s cells t t' r e why refused_by = e ∙ ap (λ (d : CallAnswer). if_done d (table_filled s cells t) t) refused_by
+pub table_fill_refused : (s : State) (cells t t' : List ℕ) (r : Result (Unit {0}) Refusal) → t' ≡ if_done r (table_filled s cells t) t
+    → (why : Refusal) → r ≡ Err why → t' ≡ t
+table_fill_refused s cells t t' r e why refused_by = e ∙ ap (λ (d : Result (Unit {0}) Refusal). if_done d (table_filled s cells t) t) refused_by
 
 -- and on a chart from an accepted setup, with room for the tiles, it is done
 pub fill_goes : (a : Asked) {w₀ : World} → BegunAs a w₀ → {n : ℕ} {w : World} → Steps n w₀ w → (t : List ℕ) → room_for_tiles a.chosen (length t) ≡ true
-    → (fill_answer w.state w.cells (length t) ≡ CallAnswer.Done) × EqualsRecount a.chosen w (table_filled w.state w.cells t)
+    → (fill_answer w.state w.cells (length t) ≡ Ok tt) × EqualsRecount a.chosen w (table_filled w.state w.cells t)
 fill_goes a {w₀} z {w = w} r = fill_reached a.chosen w (reached_by a w₀ z r)

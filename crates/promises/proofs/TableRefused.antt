@@ -1,4 +1,6 @@
 -- What refuses the calls with a table: 8 for a damaged cell in a touched tile; never 17 within a run. And a refused call leaves the table. Assumes nothing.
+use Rattle.queue.specs.declared.QueueError.{QueueError}
+use Rattle.queue.specs.Queue.{front_taken}
 use mathlib.Core.Path.{◌≡◌, refl, sym, ap, ◌∙◌}
 use mathlib.Core.Bool.{Bool, true, false, cond}
 use mathlib.Core.List.{List}
@@ -7,6 +9,7 @@ use native.Mathlib.Omega.{arith}
 use lib.Dec.{leb, ltb}
 use lib.ListN.{length, get_or, drop}
 use borrow.Author.Tests.{le-leb, lt-ltb}
+use Rattle.std.specs.Prelude.{Result, Ok, Err}
 use Rattle.base.proofs.Test.{cases}
 use Rattle.refusal.specs.declared.Refusal.{Refusal}
 use Rattle.refusal.specs.declared.Refusal.TheVariants as R
@@ -18,15 +21,14 @@ use Rattle.image.proofs.BlockLaws.{rectangle_ready}
 use Rattle.queue.specs.declared.Block.{Block}
 use Rattle.queue.specs.declared.Last.{Last}
 use Rattle.queue.specs.declared.Taken.{Taken}
-use Rattle.queue.specs.declared.Taken.TheVariants as T
 use Rattle.tiles.specs.Tiles.{touches}
 use Rattle.tiles.proofs.PlaceLaws.{tile_of}
 use Rattle.tiles.proofs.TilePromises.{touched_damage}
 use Rattle.decide.specs.declared.Chosen.{Chosen}
 use Rattle.implicit.specs.declared.state.State.{State}
 use Rattle.implicit.specs.declared.state.Ending.TheVariants as E
-use Rattle.implicit.specs.declared.state.RunAnswer.{RunAnswer}
-use Rattle.implicit.specs.declared.state.RunAnswer.TheVariants as A
+use Rattle.implicit.specs.declared.state.Refused.{Refused}
+use Rattle.implicit.specs.declared.state.Ended.{Ended}
 use Rattle.implicit.specs.Record.{pixel_count, pixel_cells, sound_record, queue_empty}
 use Rattle.implicit.specs.Listing.{front_of}
 use Rattle.implicit.specs.Step.{World, StepEnd, refused, finished, unless, judged, after_taking}
@@ -44,7 +46,7 @@ module _ (room : ℕ) (w : World) (b : Block) (last : Last) (head used : ℕ) wh
   p = w.state.chosen
 
   pub touched_refused : sound_record (length w.ring) w.state ≡ true → pixel_count p ≤ length w.cells → room_for_tiles p room ≡ true
-      → w.state.taken < w.state.queued → front_of w.state w.ring ≡ T.Front b last head used
+      → w.state.taken < w.state.queued → front_of w.state w.ring ≡ front_taken b last head used
       → (covered_by p b).left < (covered_by p b).right → (covered_by p b).top < (covered_by p b).bottom
       → (i : ℕ) → i < p.width * p.height → touches p.width p.height (covered_by p b) (tile_of p.width i) ≡ true
       → is_damaged (get_or (meanings w.cells) i (Named 0)) ≡ true → (tape : Bool) (vs : List ℕ) → tiled_step_with tape room w vs ≡ refused R.Damaged
@@ -72,11 +74,10 @@ finished_not left e n why h = let z : ◌≡◌ {A = ℕ} 0 1 = cc in absurd (om
 eight_not : (why : Refusal) → refused R.Damaged ≡ refused why → ¬ (number why ≡ 17)
 eight_not why e k = let g : R.Damaged ≡ why = cc in let m : 8 ≡ number why = ap number g in omega (arith, m, k)
 
-after_not : (tape : Bool) (w : World) (vs : List ℕ) (why : Refusal) (t : Taken) → tiled_after_taking tape w vs t ≡ refused why → ¬ (number why ≡ 17)
+after_not : (tape : Bool) (w : World) (vs : List ℕ) (why : Refusal) (t : Result Taken QueueError) → tiled_after_taking tape w vs t ≡ refused why → ¬ (number why ≡ 17)
 unfolding tiled_after_taking after_taking judged
-after_not tape w vs why T.Damaged = eight_not why
-after_not tape w vs why T.Outside = eight_not why
-after_not tape w vs why (T.Front b last head used) =
+after_not tape w vs why (Err error) = eight_not why
+after_not tape w vs why (Ok t) =
     step_on R.Damaged _ _ why (λ k. omega arith)
     (step_on R.Damaged _ _ why (λ k. omega arith)
     (step_on R.Verdicts _ _ why (λ k. omega arith)
@@ -139,9 +140,9 @@ never_inside budget room w tape =
     go false j m e = (λ k. omega arith)
 
 -- A REFUSED RUN LEAVES THE TABLE
-pub run_keeps : (budget : ℕ) (w : World) (tape table : List ℕ) (a : RunResult) (r : RunAnswer) (ring cells left : List ℕ)
-    → TiledRunsAs budget w tape table a r ring cells left → (why : Refusal) (s : State) → r ≡ A.Refused why s → left ≡ table
+pub run_keeps : (budget : ℕ) (w : World) (tape table : List ℕ) (a : RunResult) (r : Result Ended Refused) (ring cells left : List ℕ)
+    → TiledRunsAs budget w tape table a r ring cells left → (why : Refusal) (s : State) → r ≡ Err (record { why = why; state = s }) → left ≡ table
 run_keeps budget w tape table (not_run reason) r ring cells left h why s e = h.1
 run_keeps budget w tape table (has_run end) r ring cells left h why s e =
-    let f : A.Ended end.world.state end.steps end.evaluations end.tape end.ending ≡ A.Refused why s = sym h.0.0 ∙ e in
+    let f : Ok (record { state = end.world.state; steps = end.steps; evaluations = end.evaluations; tape = end.tape; ending = end.ending }) ≡ Err (record { why = why; state = s }) = sym h.0.0 ∙ e in
     let z : ◌≡◌ {A = ℕ} 0 1 = cc in absurd (omega arith)

@@ -8,6 +8,7 @@ use native.Mathlib.Omega.{arith}
 use lib.Dec.{leb}
 use lib.ListN.{length, take, drop}
 use borrow.Author.Tests.{le-leb}
+use Rattle.std.specs.Prelude.{Result, Ok}
 use Rattle.base.proofs.Test.{cases}
 use Rattle.refusal.specs.declared.Refusal.{Refusal}
 use Rattle.image.specs.Cell.{meanings}
@@ -15,8 +16,6 @@ use Rattle.image.proofs.RangeLaws.{rectangle_in_picture}
 use Rattle.queue.specs.declared.Block.{Block}
 use Rattle.tiles.proofs.RecountLaws.{recounted_twice}
 use Rattle.decide.specs.declared.Chosen.{Chosen}
-use Rattle.implicit.specs.declared.state.CallAnswer.{CallAnswer}
-use Rattle.implicit.specs.declared.state.CallAnswer.TheVariants as D
 use Rattle.implicit.specs.Record.{pixel_count, sound_record, queue_empty}
 use Rattle.implicit.specs.Step.{World, StepEnd, refused, finished, step_with, tape_step_of}
 use Rattle.implicit.specs.Run.{RunEnd, ended_as, after_step, empty_ending, gone_on, run_from, not_run, has_run, run_of}
@@ -113,14 +112,14 @@ run_tiled budget w tape t e h = rw (tiled_has_run budget (length t) w tape e h) 
 
 -- A TABLE FILLED
 
-pub filled_recount : (w : World) (t t' : List ℕ) (r : CallAnswer) → r ≡ fill_answer w.state w.cells (length t)
-    → t' ≡ if_done r (table_filled w.state w.cells t) t → r ≡ D.Done → EqualsRecount w.state.chosen w t'
+pub filled_recount : (w : World) (t t' : List ℕ) (r : Result (Unit {0}) Refusal) → r ≡ fill_answer w.state w.cells (length t)
+    → t' ≡ if_done r (table_filled w.state w.cells t) t → r ≡ Ok tt → EqualsRecount w.state.chosen w t'
 unfolding EqualsRecount
 filled_recount w t t' r answer e done =
-    let is : t' ≡ table_filled w.state w.cells t = e ∙ ap (λ (d : CallAnswer). if_done d (table_filled w.state w.cells t) t) done in
+    let is : t' ≡ table_filled w.state w.cells t = e ∙ ap (λ (d : Result (Unit {0}) Refusal). if_done d (table_filled w.state w.cells t) t) done in
     rw is (recounted_twice w.state.chosen.width w.state.chosen.height w.state.taken (meanings w.cells) t)
 
-fill_done : (p : Chosen) (w : World) → Reached p w → (room : ℕ) → room_for_tiles p room ≡ true → fill_answer w.state w.cells room ≡ D.Done
+fill_done : (p : Chosen) (w : World) → Reached p w → (room : ℕ) → room_for_tiles p room ≡ true → fill_answer w.state w.cells room ≡ Ok tt
 unfolding fill_answer
 fill_done p w h room enough =
     let k = h.keeps in
@@ -133,9 +132,9 @@ fill_done p w h room enough =
     )
 
 pub fill_reached : (p : Chosen) (w : World) → Reached p w → (t : List ℕ) → room_for_tiles p (length t) ≡ true
-    → (fill_answer w.state w.cells (length t) ≡ D.Done) × EqualsRecount p w (table_filled w.state w.cells t)
+    → (fill_answer w.state w.cells (length t) ≡ Ok tt) × EqualsRecount p w (table_filled w.state w.cells t)
 fill_reached p w h t enough =
     let done = fill_done p w h (length t) enough in
     let full : EqualsRecount w.state.chosen w (table_filled w.state w.cells t) =
-    filled_recount w t (table_filled w.state w.cells t) D.Done (sym done) refl refl in
+    filled_recount w t (table_filled w.state w.cells t) (Ok tt) (sym done) refl refl in
     (done, subst (λ (c : Chosen). EqualsRecount c w (table_filled w.state w.cells t)) h.chosen full)

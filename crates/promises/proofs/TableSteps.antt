@@ -1,5 +1,8 @@
 -- What a call with a table is: a finished step with one is a finished step, and the table that it leaves, number by number; a setup with one is a setup.
 -- Assumes nothing.
+use Rattle.queue.specs.declared.QueueError.{QueueError}
+use Rattle.queue.specs.Queue.{front_taken}
+use Rattle.queue.specs.Answers.{taken_block}
 use mathlib.Core.Path.{◌≡◌, refl, sym, ap, ◌∙◌}
 use mathlib.Core.Bool.{Bool, true, false, ◌&&◌}
 use mathlib.Core.List.{List}
@@ -8,6 +11,7 @@ use native.Mathlib.Omega.{arith}
 use lib.Dec.{leb, ltb}
 use lib.ListN.{length, get_or, take}
 use borrow.Author.Tests.{leb-true, le-ltb}
+use Rattle.std.specs.Prelude.{Result, Ok, Err}
 use Rattle.base.proofs.Test.{cases, cond_yes}
 use Rattle.refusal.specs.declared.Refusal.{Refusal}
 use Rattle.refusal.specs.declared.Refusal.TheVariants as R
@@ -15,7 +19,6 @@ use Rattle.image.specs.Cell.{meanings}
 use Rattle.queue.specs.declared.Block.{Block}
 use Rattle.queue.specs.declared.Last.{Last}
 use Rattle.queue.specs.declared.Taken.{Taken}
-use Rattle.queue.specs.declared.Taken.TheVariants as T
 use Rattle.tiles.specs.Tiles.{tile_count, touches, tile_tally, tile_number, recounted_under}
 use Rattle.tiles.proofs.TileLaws.{touched_bounds}
 use Rattle.tiles.proofs.RecountLaws.{recount_length, number_tile, number_kept, number_counted, recounted_twice}
@@ -23,7 +26,6 @@ use Rattle.decide.specs.declared.Chosen.{Chosen}
 use Rattle.decide.specs.Damage.{legal_side}
 use Rattle.implicit.specs.declared.state.State.{State}
 use Rattle.implicit.specs.declared.state.Ranges.{Ranges}
-use Rattle.implicit.specs.declared.state.SetupAnswer.TheVariants as S
 use Rattle.implicit.specs.Record.{pixel_count, sound_record}
 use Rattle.implicit.specs.Setup.{ranges_legal, first_bytes, setup_refusal, start_record, start_cells, setup_answer, ring_begun, cells_begun}
 use Rattle.implicit.specs.Listing.{front_of}
@@ -44,7 +46,7 @@ use Rattle.promises.proofs.RunSteps.{tape_step}
 
 -- the cells of the touched tiles are fine, whatever block is read
 abbrev pub TouchedFine : World → Type 0
-TouchedFine w = (b : Block) (last : Last) (head used : ℕ) → front_of w.state w.ring ≡ T.Front b last head used
+TouchedFine w = (b : Block) (last : Last) (head used : ℕ) → front_of w.state w.ring ≡ front_taken b last head used
     → touched_sound w.state.chosen w.cells b ≡ true
 
 -- all that a finished step with a table of `room` numbers has been through
@@ -67,14 +69,13 @@ table_taken tape room w vs left evals bytes h =
       touched = front (front_of w.state w.ring) d.1;
     }
   where
-    front : (t : Taken) → tiled_after_taking tape w vs t ≡ finished left evals bytes
-        → (b : Block) (last : Last) (head used : ℕ) → t ≡ T.Front b last head used → touched_sound w.state.chosen w.cells b ≡ true
-    front (T.Front block last head used) g b l h u e =
-        let same : block ≡ b = cc in
+    front : (t : Result Taken QueueError) → tiled_after_taking tape w vs t ≡ finished left evals bytes
+        → (b : Block) (last : Last) (head used : ℕ) → t ≡ front_taken b last head used → touched_sound w.state.chosen w.cells b ≡ true
+    front (Ok t) g b l h u e =
+        let same : t.block ≡ b = ap taken_block e in
         ap (touched_sound w.state.chosen w.cells) (sym same)
-        ∙ (passed R.Damaged (touched_sound w.state.chosen w.cells block) _ left evals bytes g).0
-    front T.Damaged g b l h u e = let z : ◌≡◌ {A = ℕ} 0 1 = cc in absurd (omega arith)
-    front T.Outside g b l h u e = let z : ◌≡◌ {A = ℕ} 0 1 = cc in absurd (omega arith)
+        ∙ (passed R.Damaged (touched_sound w.state.chosen w.cells t.block) _ left evals bytes g).0
+    front (Err why) g b l h u e = let z : ◌≡◌ {A = ℕ} 0 1 = cc in absurd (omega arith)
 
 -- a test that passes refuses nothing
 unless_not : (t : Bool) (why : Refusal) (rest : StepEnd) → t ≡ true → unless why t rest ≡ rest
@@ -92,10 +93,9 @@ as_plain tape room w vs enough fine =
     (unless_not (room_for_tiles w.state.chosen room) R.Table _ enough
     ∙ ap (unless R.Empty (ltb w.state.taken w.state.queued)) (front (front_of w.state w.ring) refl))
   where
-    front : (t : Taken) → front_of w.state w.ring ≡ t → tiled_after_taking tape w vs t ≡ after_taking tape w vs t
-    front (T.Front b last head used) e = unless_not (touched_sound w.state.chosen w.cells b) R.Damaged _ (fine b last head used e)
-    front T.Damaged e = refl
-    front T.Outside e = refl
+    front : (t : Result Taken QueueError) → front_of w.state w.ring ≡ t → tiled_after_taking tape w vs t ≡ after_taking tape w vs t
+    front (Ok t) e = unless_not (touched_sound w.state.chosen w.cells t.block) R.Damaged _ (fine t.block t.last t.head t.used e)
+    front (Err why) e = refl
 
 -- a step on a tape is one on the verdicts that it takes
 pub tiled_tape_step : (room : ℕ) (w : World) (tape : List ℕ) (left : World) (evals bytes : ℕ) → tiled_tape_step_of room w tape ≡ finished left evals bytes
@@ -108,12 +108,12 @@ tiled_tape_step room w tape left evals bytes e =
 
 -- the touched tiles recounted by what the step left, of the picture that it was given
 pub table_is : (room : ℕ) (w : World) (t vs : List ℕ) (left : World) (evals bytes : ℕ) → tiled_step_of room w vs ≡ finished left evals bytes
-    → (b : Block) (last : Last) (head used : ℕ) → front_of w.state w.ring ≡ T.Front b last head used
+    → (b : Block) (last : Last) (head used : ℕ) → front_of w.state w.ring ≡ front_taken b last head used
     → table_after w t (finished left evals bytes)
     ≡ recounted_under w.state.chosen.width w.state.chosen.height (covered_by w.state.chosen b) left.state.taken (meanings left.cells) t
 unfolding table_after
 table_is room w t vs left evals bytes e b last head used front =
-    ap (λ (k : Taken). table_taking k left t) front
+    ap (λ (k : Result Taken QueueError). table_taking k left t) front
     ∙ ap (λ (p : Chosen). recounted_under p.width p.height (covered_by p b) left.state.taken (meanings left.cells) t)
     (step_stays false w vs left evals bytes (table_taken false room w vs left evals bytes e).plain).chosen
 
@@ -126,7 +126,7 @@ pub within_tiles : (n i k room : ℕ) → i < n → k < 4 → 4 * n ≤ room →
 within_tiles n i k room h l e = omega arith
 
 module _ (w : World) (t vs : List ℕ) (left : World) (evals bytes : ℕ) (e : tiled_step_of (length t) w vs ≡ finished left evals bytes)
-    (b : Block) (last : Last) (head used : ℕ) (front : front_of w.state w.ring ≡ T.Front b last head used) where
+    (b : Block) (last : Last) (head used : ℕ) (front : front_of w.state w.ring ≡ front_taken b last head used) where
   abbrev p : Chosen
   p = w.state.chosen
 
@@ -157,7 +157,7 @@ module _ (w : World) (t vs : List ℕ) (left : World) (evals bytes : ℕ) (e : t
 
 -- whatever it held before
 pub touched_alike : (w : World) (t u vs : List ℕ) (left : World) (evals bytes : ℕ) → tiled_step_of (length t) w vs ≡ finished left evals bytes
-    → (b : Block) (last : Last) (head used : ℕ) → front_of w.state w.ring ≡ T.Front b last head used → length u ≡ length t → (i k : ℕ)
+    → (b : Block) (last : Last) (head used : ℕ) → front_of w.state w.ring ≡ front_taken b last head used → length u ≡ length t → (i k : ℕ)
     → touches w.state.chosen.width w.state.chosen.height (covered_by w.state.chosen b) i ≡ true → k < 4
     → get_or (table_after w u (finished left evals bytes)) (4 * i + k) 0 ≡ get_or (table_after w t (finished left evals bytes)) (4 * i + k) 0
 touched_alike w t u vs left evals bytes e b last head used front same i k on h =
@@ -199,12 +199,12 @@ pub setup_same : (p : Chosen) (r : Ranges) (ring cells : List ℕ) (room : ℕ) 
 unfolding tiled_setup_answer tiled_setup_refusal tiled_ring_begun tiled_cells_begun setup_answer setup_refusal ring_begun cells_begun
 setup_same p r ring cells room enough = rw enough (refl, refl, refl)
 
-refused_not : {P : Type 0} (why : Refusal) (s : State) → S.Refused why ≡ S.Ready s → P
+refused_not : {P : Type 0} (why : Refusal) (s : State) → ◌≡◌ {A = Result State Refusal} (Err why) (Ok s) → P
 refused_not why s e = let z : ◌≡◌ {A = ℕ} 0 1 = cc in absurd (omega arith)
 
 -- refused, it leaves the table
 pub setup_keeps : (p : Chosen) (r : Ranges) (ring cells table : List ℕ) (why : Refusal)
-    → tiled_setup_answer p r (length ring) (length cells) (length table) ≡ S.Refused why → table_begun p r (length ring) cells table ≡ table
+    → tiled_setup_answer p r (length ring) (length cells) (length table) ≡ Err why → table_begun p r (length ring) cells table ≡ table
 unfolding tiled_setup_answer tiled_setup_refusal table_begun
 setup_keeps p r ring cells table why e =
     cases (legal_side p.width && legal_side p.height)
@@ -221,7 +221,7 @@ setup_keeps p r ring cells table why e =
 
 -- an answer with a record: the setup without a table is accepted too, and the record, the ring, the cells and the table are the starting ones
 pub record TableBegins (p : Chosen) (r : Ranges) (ring cells table : List ℕ) (s : State) : Type 0 where
-  pub plain : setup_answer p r (length ring) (length cells) ≡ S.Ready s
+  pub plain : setup_answer p r (length ring) (length cells) ≡ Ok s
   pub ring_is : tiled_ring_begun p r ring (length cells) (length table) ≡ ring_begun p r ring cells
   pub cells_are : tiled_cells_begun p r (length ring) cells (length table) ≡ cells_begun p r ring cells
   pub room_enough : room_for_tiles p (length table) ≡ true
@@ -230,7 +230,7 @@ pub record TableBegins (p : Chosen) (r : Ranges) (ring cells table : List ℕ) (
   pub table_is_counted : table_begun p r (length ring) cells table ≡ table_of p 0 (start_cells p r cells) table
 
 pub table_begins : (p : Chosen) (r : Ranges) (ring cells table : List ℕ) (s : State)
-    → tiled_setup_answer p r (length ring) (length cells) (length table) ≡ S.Ready s → TableBegins p r ring cells table s
+    → tiled_setup_answer p r (length ring) (length cells) (length table) ≡ Ok s → TableBegins p r ring cells table s
 unfolding tiled_setup_answer tiled_setup_refusal tiled_ring_begun tiled_cells_begun table_begun setup_answer setup_refusal ring_begun cells_begun
 table_begins p r ring cells table s e =
     cases (legal_side p.width && legal_side p.height)
@@ -238,7 +238,7 @@ table_begins p r ring cells table s e =
     (λ j. cases (room_for_tiles p (length table))
     (λ m. cases (ranges_legal p.set r)
     (λ k. cases (leb (length (first_bytes p r)) (length ring))
-    (λ l. (let h : S.Ready (start_record p r (length ring)) ≡ S.Ready s = rw (i, j, m, k, l) at e in
+    (λ l. (let h : Ok (start_record p r (length ring)) ≡ Ok s = rw (i, j, m, k, l) at e in
     let g : start_record p r (length ring) ≡ s = cc in
     record {
       plain = rw (i, j, k, l) h;

@@ -1,5 +1,6 @@
 -- The history of the engine's steps, by their outcomes, is `theory`'s history, by their judgements; so the steps that mark a pixel, take a block
 -- that covers it or give it up are the same in both. And the real cutting keeps every pixel covered. Assumes nothing.
+use Rattle.std.specs.Prelude.{Option}
 use mathlib.Core.Path.{◌≡◌, refl, sym, ap, ap₂, ◌∙◌, subst}
 use mathlib.Core.Logic.{inl}
 use mathlib.Core.Bool.{Bool, true, false, cond, ◌&&◌}
@@ -26,8 +27,7 @@ use Rattle.coordinate.specs.Axis.{ordinary_floor}
 use Rattle.queue.specs.declared.Block.{Block}
 use Rattle.queue.specs.declared.directions.Direction.{Direction}
 use Rattle.queue.specs.declared.directions.Direction.TheVariants as D
-use Rattle.queue.specs.declared.directions.DirectionAt.{DirectionAt}
-use Rattle.queue.specs.declared.directions.DirectionAt.TheVariants as A
+use Rattle.std.specs.declared.option.Option.TheVariants as A
 use Rattle.decide.specs.declared.Chosen.{Chosen}
 use Rattle.decide.specs.declared.verdict.Outcome.{Outcome}
 use Rattle.decide.specs.declared.verdict.Outcome.TheVariants as O
@@ -261,10 +261,10 @@ module _ (p : Chosen) (b : Block) (q : Pixel p) (ok : sound p b ≡ true) (c : T
   cut_covered d =
       some_of_every Covered (children_cut b d) (every_also (InPlace b) Covered covered_there (children_cut b d) (cut_in_place b d)) (cut_count b d).0
 
-  are_xy : direction_of p b ≡ A.Along D.XY → children_of p b ≡ children_xy p b
+  are_xy : direction_of p b ≡ A.Some D.XY → children_of p b ≡ children_xy p b
   are_xy e = unfold children_of in rw (ok, e)
 
-  xy_covered : direction_of p b ≡ A.Along D.XY → Some Covered (children_xy p b)
+  xy_covered : direction_of p b ≡ A.Some D.XY → Some Covered (children_xy p b)
   xy_covered e =
       let up = ltb-true ordinary_floor b.x.rank (cut_along p b D.XY ok e refl) in
       let listed : map place_of_block (children_xy p b) ≡ quarters 48 p.width p.height (place_of_block b) =
@@ -272,13 +272,13 @@ module _ (p : Chosen) (b : Block) (q : Pixel p) (ok : sound p b ≡ true) (c : T
       some_of_map (λ k. T (covers_pixel 48 k q)) place_of_block (children_xy p b)
       (rw listed (quarters_keep_covered p.width p.height 48 q (place_of_block b) (omega arith) c))
 
-  along_covered : (a : DirectionAt) → direction_of p b ≡ a → Some Covered (children_along p b a)
-  along_covered (A.Along D.XY) e = xy_covered e
-  along_covered (A.Along D.M) e = cut_covered D.M
-  along_covered (A.Along D.N) e = cut_covered D.N
-  along_covered (A.Along D.Theta) e = cut_covered D.Theta
-  along_covered (A.Along D.T) e = cut_covered D.T
-  along_covered A.Beyond e = unfold Some in inl c
+  along_covered : (a : Option Direction) → direction_of p b ≡ a → Some Covered (children_along p b a)
+  along_covered (A.Some D.XY) e = xy_covered e
+  along_covered (A.Some D.M) e = cut_covered D.M
+  along_covered (A.Some D.N) e = cut_covered D.N
+  along_covered (A.Some D.Theta) e = cut_covered D.Theta
+  along_covered (A.Some D.T) e = cut_covered D.T
+  along_covered A.None e = unfold Some in inl c
 
   children_covered : Some Covered (children_of p b)
   unfolding children_of

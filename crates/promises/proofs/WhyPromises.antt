@@ -16,6 +16,7 @@ use lib.ListN.{length, drop}
 use Rattle.base.specs.Lists.{Every, Some}
 use Rattle.base.specs.Places.{Latest}
 use Rattle.theory.specs.Colours.{Question, HasSolution, Holds}
+use Rattle.std.specs.Prelude.{Result, Ok, Err}
 use Rattle.refusal.specs.declared.Refusal.{Refusal}
 use Rattle.interval.specs.Bounds.{InFormat}
 use Rattle.image.specs.declared.Reading.TheVariants as Reads
@@ -100,14 +101,14 @@ module _ (a : Asked) {w₀ : World} (z : BegunAs a w₀) where
 -- ---- THE CONTRACT OF `explain` gives this: the hypotheses are its `ensures`, with r for the answer, `ring` for the memory at entry and `ring'` at
 -- exit, and so of the cells. (The bounds handed in are values of f64, as every f64 is; the reserved bytes are read as 0.)
 
-module _ (chosen : Chosen) (ranges : Ranges) (ring cells tape : List ℕ) (steps column row : ℕ) (r : Explanation) (ring' cells' : List ℕ)
+module _ (chosen : Chosen) (ranges : Ranges) (ring cells tape : List ℕ) (steps column row : ℕ) (r : Result Explanation Refusal) (ring' cells' : List ℕ)
     (is : r ≡ explained (cleared chosen) ranges ring cells tape steps column row)
     (ring_is : ring' ≡ ring_explained (cleared chosen) ranges ring cells tape steps column row)
     (cells_are : cells' ≡ cells_explained (cleared chosen) ranges ring cells tape steps column row) where
   -- where it answers a reason, what it leaves and reports is the end of the run from an accepted setup on; the run's steps are finished steps, and
   -- the reason is right after them: "What it names is proved to be what the step definition says happened"
   pub explain_answered : InFormat ranges.m × InFormat ranges.n × InFormat ranges.theta × InFormat ranges.t
-      → (why : Reason) (s : State) (n evals bytes : ℕ) (ending : Ending) → r ≡ Explanation.Of why s n evals bytes ending
+      → (why : Reason) (s : State) (n evals bytes : ℕ) (ending : Ending) → r ≡ Ok (Explanation.Of why s n evals bytes ending)
       → (w₀ : World) × BegunAs (asked_by chosen ranges ring cells) w₀ × (run_from steps w₀ tape ≡ ran_to s ring' cells' n evals bytes ending)
       × (q : Pixel (cleared chosen)) × (column ≡ q.x) × (row ≡ chosen.height - 1 - q.y)
       × (c : Steps n w₀ (world_of s ring' cells')) × NoMove c × (history_from steps w₀ tape [] ≡ past_in c)
@@ -115,20 +116,20 @@ module _ (chosen : Chosen) (ranges : Ranges) (ring cells tape : List ℕ) (steps
   explain_answered = reason_answered chosen ranges ring cells tape steps column row r ring' cells' is ring_is cells_are
 
   -- "if the queue empties sooner, it answers for that end": the finished steps are as many as were asked for, unless the queue is empty
-  pub explains_the_end : (why : Reason) (s : State) (n evals bytes : ℕ) (ending : Ending) → r ≡ Explanation.Of why s n evals bytes ending
+  pub explains_the_end : (why : Reason) (s : State) (n evals bytes : ℕ) (ending : Ending) → r ≡ Ok (Explanation.Of why s n evals bytes ending)
       → (n ≡ steps) ⊎ ((n < steps) × (queue_empty s ≡ true))
   explains_the_end = end_answered chosen ranges ring cells tape steps column row r ring' cells' is ring_is cells_are
 
   -- "a step that refuses on the way gives its number", and the ring and the cells "then hold what those steps left, also, against demand 1, where
   -- one refuses": it is the step on what they left, with the rest of the tape
   pub explain_stopped : InFormat ranges.m × InFormat ranges.n × InFormat ranges.theta × InFormat ranges.t
-      → (why : Refusal) (s : State) (n evals bytes : ℕ) → r ≡ Explanation.Stopped why s n evals bytes
+      → (why : Refusal) (s : State) (n evals bytes : ℕ) → r ≡ Ok (Explanation.Stopped why s n evals bytes)
       → (w₀ : World) × BegunAs (asked_by chosen ranges ring cells) w₀ × (run_from steps w₀ tape ≡ ran_to s ring' cells' n evals bytes (E.Stop why))
       × (c : Steps n w₀ (world_of s ring' cells')) × NoMove c × (tape_step_of (world_of s ring' cells') (drop bytes tape) ≡ refused why)
   explain_stopped = stop_answered chosen ranges ring cells tape steps column row r ring' cells' is ring_is cells_are
 
   -- where it is refused, by the setup's own numbers or by 18, nothing was written
-  pub explain_refused : (why : Refusal) → r ≡ Explanation.Refused why → (ring' ≡ ring) × (cells' ≡ cells)
+  pub explain_refused : (why : Refusal) → r ≡ Err why → (ring' ≡ ring) × (cells' ≡ cells)
   explain_refused = refusal_answered chosen ranges ring cells tape steps column row r ring' cells' is ring_is cells_are
 
 -- ---- WHITE BECAUSE OF THAT STEP: what the reason for False means, over any relation

@@ -1,12 +1,10 @@
 -- Document 02, (ii): an evaluator that judges boxes. It says no to a block after a look at the block's box alone: nothing within the outermost ends of its edges
 -- solves the relation. Here the relation speaks of coordinates, and a mix stands where its position in pixels is mapped to, exactly.
-use Rattle.std.specs.Prelude.{◌≡◌, ℕ, suc, ◌*◌, ◌^◌, pos}
+use Rattle.std.specs.Prelude.{◌≡◌, Ok, ℕ, suc, ◌*◌, ◌^◌, pos}
 use Rattle.std.proofs.Common.{pow_pos}
 use Rattle.theory.specs.Colours.{said_false, skipped, Judgement, judgement}
-use Rattle.interval.specs.declared.Interval.{Interval}
 use Rattle.boxes.specs.declared.Plot.{Plot}
-use Rattle.boxes.specs.declared.Edges.{Edges}
-use Rattle.boxes.specs.declared.BoxAnswer.TheVariants as B
+use Rattle.boxes.specs.declared.BlockBox.{BlockBox}
 use Rattle.boxes.specs.declared.transformation.MapKind.{MapKind}
 use Rattle.boxes.specs.Ratios.{Ratio, ◌⊑◌}
 use Rattle.boxes.specs.Boxes.{x_axis, y_axis, box_of}
@@ -50,8 +48,8 @@ module _ (M : Measures) (plot : Plot) (Relation : (u v : Ratio) → Mix M → Ty
   -- the block has a box, by either kind of map, and no place within its outermost ends solves the relation with parameters that the block holds
   unfoldable pub NoneInBox : Block → Type 0
   NoneInBox b =
-      (kind : MapKind) × (e : Edges) × (x : Interval) × (y : Interval) × (box_of plot kind b.x b.y ≡ B.Box e x y)
-      × ((u v : Ratio) (a : Mix M) → WithinEnds e.left e.right u → WithinEnds e.bottom e.top v → HeldBy M b a → ¬ Relation u v a)
+      (kind : MapKind) × (k : BlockBox) × (box_of plot kind b.x b.y ≡ Ok k)
+      × ((u v : Ratio) (a : Mix M) → WithinEnds k.edges.left k.edges.right u → WithinEnds k.edges.bottom k.edges.top v → HeldBy M b a → ¬ Relation u v a)
 
   -- a false verdict that was looked at was said of such a block
   unfoldable pub JudgedByBox : Judgement Block → Type 0

@@ -1,14 +1,13 @@
 -- DEMAND 3, a statement for each of its sentences, one about the share, and one about the colours: of a setup that was called with `a` and left the world
 -- w₀, and of the finished steps after it, with moves among them. proofs/Promises proves them of every accepted setup; proofs/Claims and ClaimsShare compute
 -- what they say of small charts.
-use Rattle.std.specs.Prelude.{◌≡◌, ◌↔◌, ◌++◌, ℕ, suc, ◌*◌, ◌≤◌, ◌<◌, length, drop}
+use Rattle.std.specs.Prelude.{◌≡◌, ◌↔◌, ◌++◌, ℕ, suc, ◌*◌, ◌≤◌, ◌<◌, length, drop, Ok}
 use Rattle.base.specs.Lists.{Every}
 use Rattle.image.specs.declared.Reading.TheVariants as Reads
 use Rattle.theory.specs.Demand3.{CoversAtMostOne}
 use Rattle.theory.specs.Levels.{sum_to, places_along}
 use Rattle.theory.specs.Colours.{HasSolution, FalseRight}
 use Rattle.implicit.specs.declared.state.Tally.{Tally}
-use Rattle.implicit.specs.declared.state.CountsAnswer.TheVariants as CountsAnswer
 use Rattle.implicit.specs.Setup.{start_level}
 use Rattle.implicit.specs.Step.{World}
 use Rattle.implicit.specs.View.{counts_answer}
@@ -51,7 +50,7 @@ module _ (a : Asked) (w₀ : World) where
   abbrev pub ShareWhole : Type 0
   ShareWhole =
       (n : ℕ) (w : World) → Steps n w₀ w
-      → (t : Tally) × (counts_answer w.state w.cells ≡ CountsAnswer.Of t)
+      → (t : Tally) × (counts_answer w.state w.cells ≡ Ok t)
       × ((t.share ≡ 1000) ↔ ((q : Pixel a.chosen) → ¬ (reads_in a.chosen w q ≡ Reads.Uncertain)))
 
 module _ (M : Measures) (Solves : Mix M → Type 0) (a : Asked) (w₀ : World) where

@@ -1,5 +1,8 @@
 -- What copy answers and leaves, by the tests that the code makes; and that the other ring then holds the same
 -- bytes. Assumes nothing.
+use Rattle.std.specs.Prelude.{Result, Ok, Err}
+use Rattle.queue.specs.declared.QueueError.{QueueError}
+use Rattle.queue.specs.declared.QueueError.TheVariants as Q
 use mathlib.Core.Path.{◌≡◌, refl, sym, ap, ◌∙◌}
 use mathlib.Core.Logic.{◌↔◌}
 use mathlib.Core.Bool.{Bool, true, false, cond, true≢false, false≢true}
@@ -7,61 +10,52 @@ use mathlib.Core.List.{List, [], ◌++◌}
 use Prim.Native.Nat.{ℕ, ◌+◌, ◌-◌, ◌≤◌, ◌<◌}
 use native.Mathlib.Omega.{arith}
 use native.Mathlib.Nat.{zero-add}
-use lib.ListN.{length, take, length-append}
-use lib.Seq.{sets, take_all}
+use lib.ListN.{length, drop}
+use lib.Seq.{sets, length-sets}
+use borrow.Rule.Slice.PartMut.{put_mid}
 use borrow.Author.Tests.{lt-ltb}
-use Rattle.queue.specs.declared.Copied.{Copied}
-use Rattle.queue.specs.declared.Copied.TheVariants as C
 use Rattle.queue.specs.Ring.{older_stretch, newer_stretch, content, fits_ring, stored}
 use Rattle.queue.specs.Answers.{copied_number}
 use Rattle.queue.specs.Queue.{copied, if_copied, copied_ring}
-use Rattle.queue.proofs.RingLaws.{stretches_length, content_length, content_store, stored_straight}
-use Rattle.queue.proofs.WriteLaws.{sets_append}
+use Rattle.queue.proofs.RingLaws.{content_length, content_store, stored_straight}
+use Rattle.queue.proofs.WriteLaws.{sets_append, part_put, front_put}
 use Rattle.queue.proofs.QueueAnswers.{fits_both}
 
 -- one stretch stored from byte 0 on, and another behind it
-pub store_both : (ring o n ring₁ ring₂ : List ℕ) → ring₁ ≡ sets ring 0 (take (length o) o)
-    → ring₂ ≡ sets ring₁ (length o) (take (length n) n)
-    → ring₂ ≡ sets ring 0 (o ++ n)
-store_both ring o n ring₁ ring₂ e f =
-    f ∙ rw (e, take_all (length o) o (omega arith), take_all (length n) n (omega arith))
-    (ap (λ (at : ℕ). sets (sets ring 0 o) at n) (sym (zero-add (length o))) ∙ sets_append o n ring 0)
+pub store_both : (ring o n o₁ n₁ : List ℕ) (k : ℕ) → o₁ ≡ o → n₁ ≡ n → k ≡ length n → length o + length n ≤ length ring
+    → put_mid (length o) k (o₁ ++ drop (length o) ring) n₁ ≡ sets ring 0 (o ++ n)
+store_both ring o n o₁ n₁ k e f g h =
+    let front = front_put ring o o₁ (length o) e refl (omega arith) in
+    rw front (part_put (sets ring 0 o) n n₁ (length o) k f g (simp length-sets h))
+    ∙ ap (λ (at : ℕ). sets (sets ring 0 o) at n) (sym (zero-add (length o))) ∙ sets_append o n ring 0
 
 module _ (ring : List ℕ) (head used : ℕ) (other : List ℕ) where
   pub copy_outside : fits_ring (length ring) head used ≡ false
-      → (C.Outside ≡ copied (length ring) head used (length other)) × (other ≡ copied_ring ring head used other)
+      → (Err Q.Outside ≡ copied (length ring) head used (length other)) × (other ≡ copied_ring ring head used other)
   unfolding copied copied_ring
   copy_outside e = (rw e, rw e)
 
   module _ (e : fits_ring (length ring) head used ≡ true) where
     pub copy_full : fits_ring (length other) 0 used ≡ false
-        → (C.NoRoom ≡ copied (length ring) head used (length other)) × (other ≡ copied_ring ring head used other)
+        → (Err Q.NoRoom ≡ copied (length ring) head used (length other)) × (other ≡ copied_ring ring head used other)
     unfolding copied copied_ring
     copy_full f = (rw (e, f), rw (e, f))
 
-    module _ (f : fits_ring (length other) 0 used ≡ true) (o n : List ℕ) (older : o ≡ older_stretch ring head used)
-        (newer : n ≡ newer_stretch ring head used) where
-      both_used : length o + length n ≡ used
-      both_used =
+    module _ (f : fits_ring (length other) 0 used ≡ true) (bytes : List ℕ) (is : bytes ≡ content ring head used) where
+      -- what is held has room
+      pub copy_fits : length bytes ≤ length other
+      copy_fits =
           let (h, k) = fits_both (length ring) head used e in
-          rw (older, newer) (stretches_length ring head used (omega arith) k)
+          omega (arith, ap length is, content_length ring head used (omega arith) k, (fits_both (length other) 0 used f).1)
 
-      -- both stretches have room
-      pub copy_fits : length o + length n ≤ length other
-      copy_fits = omega (arith, both_used, (fits_both (length other) 0 used f).1)
-
-      pub copy_done : (other₁ : List ℕ) → other₁ ≡ sets other 0 (o ++ n)
-          → (C.Done ≡ copied (length ring) head used (length other)) × (other₁ ≡ copied_ring ring head used other)
-      unfolding copied copied_ring content
-      copy_done other₁ g = (
-        rw (e, f),
-        rw (e, f, ← older, ← newer) (g ∙ sym (stored_straight (o ++ n) other 0
-            (omega (arith, copy_fits, length-append o n)))),
-      )
+      pub copy_done : (other₁ : List ℕ) → other₁ ≡ sets other 0 bytes
+          → (Ok tt ≡ copied (length ring) head used (length other)) × (other₁ ≡ copied_ring ring head used other)
+      unfolding copied copied_ring
+      copy_done other₁ g = (rw (e, f), rw (e, f, ← is) (g ∙ sym (stored_straight bytes other 0 (omega (arith, copy_fits)))))
 
 -- THE ANSWER'S NUMBER, by the two tests
-abbrev answer : Bool → Bool → Copied
-answer f g = cond f (cond g C.Done C.NoRoom) C.Outside
+abbrev answer : Bool → Bool → Result (Unit {0}) QueueError
+answer f g = cond f (cond g (Ok tt) (Err Q.NoRoom)) (Err Q.Outside)
 
 copy_zero : (f g : Bool) → (copied_number (answer f g) ≡ 0) ↔ ((f ≡ true) × (g ≡ true))
 copy_zero true true = (λ e. (refl, refl), λ h. refl)
@@ -78,10 +72,9 @@ copy_eight true true = (λ e. absurd (omega arith), λ h. absurd (true≢false h
 copy_eight true false = (λ e. absurd (omega arith), λ h. absurd (true≢false h))
 copy_eight false g = (λ e. refl, λ h. refl)
 
-copy_keeps : (a : Copied) (after before : List ℕ) → ¬ (copied_number a ≡ 0) → if_copied a after before ≡ before
-copy_keeps C.Done after before n = absurd (n refl)
-copy_keeps C.NoRoom after before n = refl
-copy_keeps C.Outside after before n = refl
+copy_keeps : (a : Result (Unit {0}) QueueError) (after before : List ℕ) → ¬ (copied_number a ≡ 0) → if_copied a after before ≡ before
+copy_keeps (Ok done) after before n = absurd (n refl)
+copy_keeps (Err why) after before n = refl
 
 module _ (ring : List ℕ) (head used : ℕ) (other : List ℕ) where
   pub copy_is_0 : (copied_number (copied (length ring) head used (length other)) ≡ 0)

@@ -1,5 +1,6 @@
 -- A block that was decoded comes out again as it went in, if its indices are in the range: its levels are, and its
 -- parameters are legal and put. Assumes nothing.
+use Rattle.std.specs.Prelude.{Option, Some, None}
 use mathlib.Core.Path.{◌≡◌, refl, ◌∙◌, subst}
 use mathlib.Core.Bool.{Bool, true, false, cond, ◌&&◌, true≢false, false≢true}
 use mathlib.Core.List.{List}
@@ -10,13 +11,12 @@ use lib.Dec.{leb, ltb, eqb}
 use lib.ListN.{length, get_or, take, drop}
 use borrow.Author.Tests.{leb-true}
 use Rattle.base.specs.Bytes.{of_big_endian}
-use Rattle.small.specs.declared.ReadAnswer.{ReadAnswer}
-use Rattle.small.specs.declared.ReadAnswer.TheVariants as S
+use Rattle.std.specs.Prelude.{Result, Ok, Err}
+use Rattle.refusal.specs.declared.Refusal.{Refusal}
+use Rattle.small.specs.declared.Number.{Number}
 use Rattle.small.specs.Small.{read_small}
 use Rattle.coordinate.specs.declared.Coordinate.{Coordinate}
 use Rattle.interval.specs.declared.Interval.{Interval}
-use Rattle.interval.specs.declared.BitsAnswer.{BitsAnswer}
-use Rattle.interval.specs.declared.BitsAnswer.TheVariants as B
 use Rattle.interval.specs.Bounds.{InFormat, legal_interval, put_interval}
 use Rattle.interval.specs.Answers.{answer_from_bits}
 use Rattle.interval.proofs.Legality.{put_again, put_legal}
@@ -26,14 +26,6 @@ use Rattle.queue.specs.declared.Block.{Block}
 use Rattle.queue.specs.declared.Last.{Last}
 use Rattle.queue.specs.declared.directions.Direction.{Direction}
 use Rattle.queue.specs.declared.directions.Direction.TheVariants as D
-use Rattle.queue.specs.declared.read.LevelRead.{LevelRead}
-use Rattle.queue.specs.declared.read.LevelRead.TheVariants as L
-use Rattle.queue.specs.declared.read.CoordinateRead.{CoordinateRead}
-use Rattle.queue.specs.declared.read.CoordinateRead.TheVariants as C
-use Rattle.queue.specs.declared.read.ParameterRead.{ParameterRead}
-use Rattle.queue.specs.declared.read.ParameterRead.TheVariants as P
-use Rattle.queue.specs.declared.read.BlockRead.{BlockRead}
-use Rattle.queue.specs.declared.read.BlockRead.TheVariants as R
 use Rattle.queue.specs.Directions.{in_use, parameters}
 use Rattle.queue.specs.Block.{is_integer, parameter_of, with_parameter, recalled}
 use Rattle.queue.specs.Decode.{level_of, level_read, coordinate_with, coordinate_of, coordinate_read, bounds_of}
@@ -52,15 +44,15 @@ Bytes s = (i : ℕ) → get_or s i 0 < 256
 abbrev InRank : ℕ → Type 0
 InRank rank = (16 ≤ rank) × (rank < 64)
 
-abbrev LevelGood : LevelRead → Type 0
-LevelGood (L.Rank rank) = InRank rank
-LevelGood L.Damaged = Unit {0}
+abbrev LevelGood : Option ℕ → Type 0
+LevelGood (Some rank) = InRank rank
+LevelGood None = Unit {0}
 
 level_good : (byte : ℕ) → byte < 256 → LevelGood (level_of byte)
 level_good byte h = go (leb byte 15) refl (leb 224 byte) refl
   where
     go : (t : Bool) → leb byte 15 ≡ t → (u : Bool) → leb 224 byte ≡ u
-        → LevelGood (cond t (L.Rank (byte + 48)) (cond u (L.Rank (byte - 208)) L.Damaged))
+        → LevelGood (cond t (Some (byte + 48)) (cond u (Some (byte - 208)) None))
     go true e u f = (omega arith, omega (arith, leb-true byte 15 e))
     go false e true f = (omega (arith, leb-true 224 byte f), omega arith)
     go false e false f = tt
@@ -69,31 +61,31 @@ read_good : (s : List ℕ) → Bytes s → LevelGood (level_read s)
 unfolding level_read
 read_good s h = go (eqb (length s) 0)
   where
-    go : (t : Bool) → LevelGood (cond t L.Damaged (level_of (get_or s 0 0)))
+    go : (t : Bool) → LevelGood (cond t None (level_of (get_or s 0 0)))
     go true = tt
     go false = level_good (get_or s 0 0) (h 0)
 
-abbrev CoordinateGood : CoordinateRead → Type 0
-CoordinateGood (C.Read c count) = InRank c.rank
-CoordinateGood C.Damaged = Unit {0}
+abbrev CoordinateGood : Option (Coordinate × ℕ) → Type 0
+CoordinateGood (Some (c, count)) = InRank c.rank
+CoordinateGood None = Unit {0}
 
 coordinate_good : (last : ℕ) (s : List ℕ) → Bytes s → CoordinateGood (coordinate_read last s)
 unfolding coordinate_read coordinate_of
 coordinate_good last s h = go (read_small s)
   where
-    level : (x n : ℕ) (l : LevelRead) → LevelGood l → CoordinateGood (coordinate_with (bit_xor last x) n l)
-    level x n (L.Rank k) g = g
-    level x n L.Damaged g = tt
+    level : (x n : ℕ) (l : Option ℕ) → LevelGood l → CoordinateGood (coordinate_with (bit_xor last x) n l)
+    level x n (Some k) g = g
+    level x n None g = tt
 
-    go : (r : ReadAnswer) → CoordinateGood (coordinate_of last s r)
-    go (S.Number x n) = level x n (level_read (drop n s)) (read_good (drop n s) (later_bytes s n h))
-    go (S.Refused w) = tt
+    go : (r : Result Number Refusal) → CoordinateGood (coordinate_of last s r)
+    go (Ok n) = level n.x n.count (level_read (drop n.count s)) (read_good (drop n.count s) (later_bytes s n.count h))
+    go (Err w) = tt
 
 -- ---- a parameter
 
-abbrev ParameterGood : Bool → Bool → ParameterRead → Type 0
-ParameterGood used integer (P.Read p count) = ParameterFine used integer p
-ParameterGood used integer P.Damaged = Unit {0}
+abbrev ParameterGood : Bool → Bool → Option (Interval × ℕ) → Type 0
+ParameterGood used integer (Some (p, count)) = ParameterFine used integer p
+ParameterGood used integer None = Unit {0}
 
 proper_fine : (integer : Bool) (p : Interval) → Proper integer p → ParameterFine true integer p
 proper_fine integer p q = record { proper = λ e. q; line = λ e. absurd (true≢false e) }
@@ -105,16 +97,16 @@ unfolding parameter_read used_read bounds_read
 parameter_good false integer last s f l = record { proper = λ e. absurd (false≢true e); line = λ e. refl }
 parameter_good true integer last s f l = two (leb 2 (length s)) (eqb (get_or s 0 0) 255 && eqb (get_or s 1 0) 255)
   where
-    whole : (r : BitsAnswer) → answer_from_bits (of_big_endian (take 8 s)) (of_big_endian (take 8 (drop 8 s))) integer ≡ r
+    whole : (r : Result Interval Refusal) → answer_from_bits (of_big_endian (take 8 s)) (of_big_endian (take 8 (drop 8 s))) integer ≡ r
         → (t : Bool)
-        → ParameterGood true integer (cond t (bounds_of r) P.Damaged)
-    whole (B.Bounds p) e true =
+        → ParameterGood true integer (cond t (bounds_of r) None)
+    whole (Ok p) e true =
         proper_fine integer p (read_proper (of_big_endian (take 8 s)) (of_big_endian (take 8 (drop 8 s))) integer p e)
-    whole (B.Refused w) e true = tt
+    whole (Err w) e true = tt
     whole r e false = tt
 
     two : (t m : Bool) → ParameterGood true integer
-        (cond t (cond m (P.Read (put_interval last) 2) (bounds_read integer s)) P.Damaged)
+        (cond t (cond m (Some (put_interval last, 2)) (bounds_read integer s)) None)
     two true true =
         proper_fine integer (put_interval last)
         (record { legal = put_legal last integer ∙ l refl; put = put_again last; format = put_format last f })
@@ -125,9 +117,9 @@ parameter_good true integer last s f l = two (leb 2 (length s)) (eqb (get_or s 0
 -- ---- the block
 
 -- of the block that was read, if one was
-abbrev Has : (Block → Type 0) → BlockRead → Type 0
-Has H (R.Read b count) = H b
-Has H R.Damaged = Unit {0}
+abbrev Has : (Block → Type 0) → Option (Block × ℕ) → Type 0
+Has H (Some (b, count)) = H b
+Has H None = Unit {0}
 
 abbrev Ranks : Block → Type 0
 Ranks b = InRank b.x.rank × InRank b.y.rank
@@ -136,35 +128,35 @@ place_good : (last : Last) (s : List ℕ) → Bytes s → Has Ranks (place_read 
 unfolding place_read with_x
 place_good last s h = go (coordinate_read last.x s) (coordinate_good last.x s h)
   where
-    next : (x : Coordinate) (n : ℕ) → InRank x.rank → (r : CoordinateRead) → CoordinateGood r
+    next : (x : Coordinate) (n : ℕ) → InRank x.rank → (r : Option (Coordinate × ℕ)) → CoordinateGood r
         → Has Ranks (with_y x n r)
-    next x n g (C.Read y k) i = (g, i)
-    next x n g C.Damaged i = tt
+    next x n g (Some (y, k)) i = (g, i)
+    next x n g None i = tt
 
-    go : (r : CoordinateRead) → CoordinateGood r → Has Ranks (with_x last s r)
-    go (C.Read x n) g =
+    go : (r : Option (Coordinate × ℕ)) → CoordinateGood r → Has Ranks (with_x last s r)
+    go (Some (x, n)) g =
         next x n g (coordinate_read last.y (drop n s)) (coordinate_good last.y (drop n s) (later_bytes s n h))
-    go C.Damaged g = tt
+    go None g = tt
 
 module _ (set : ℕ) (last : Last) (s : List ℕ) (known : Known last)
     (legal : (d : Direction) → in_use set d ≡ true → legal_interval (recalled last d) (is_integer d) ≡ true) where
   abbrev FineAt : Direction → Block → Type 0
   FineAt d b = ParameterFine (in_use set d) (is_integer d) (parameter_of b d)
 
-  add_good : (H K : Block → Type 0) (d : Direction) (r : BlockRead)
+  add_good : (H K : Block → Type 0) (d : Direction) (r : Option (Block × ℕ))
       → ((b : Block) (p : Interval) → H b → ParameterFine (in_use set d) (is_integer d) p → K (with_parameter b d p))
       → Has H r → Has K (add_parameter set last s d r)
   unfolding add_parameter
-  add_good H K d (R.Read b n) step g =
+  add_good H K d (Some (b, n)) step g =
       go (parameter_read (in_use set d) (is_integer d) (recalled last d) (drop n s))
       (parameter_good (in_use set d) (is_integer d) (recalled last d) (drop n s) (known.format d) (legal d))
     where
-      go : (r : ParameterRead) → ParameterGood (in_use set d) (is_integer d) r → Has K (with_read b d n r)
-      go (P.Read p k) f = step b p g f
-      go P.Damaged f = tt
-  add_good H K d R.Damaged step g = tt
+      go : (r : Option (Interval × ℕ)) → ParameterGood (in_use set d) (is_integer d) r → Has K (with_read b d n r)
+      go (Some (p, k)) f = step b p g f
+      go None f = tt
+  add_good H K d None step g = tt
 
-  all_good : (r : BlockRead) → Has Ranks r
+  all_good : (r : Option (Block × ℕ)) → Has Ranks r
       → Has (λ (b : Block). Ranks b × FineAt D.M b × FineAt D.N b × FineAt D.Theta b × FineAt D.T b)
       (add_parameters set last s parameters r)
   unfolding add_parameters
@@ -179,15 +171,15 @@ module _ (set : ℕ) (last : Last) (s : List ℕ) (known : Known last)
       (λ b p h f. (h.0, h.1, f))
       (add_good Ranks (λ (b : Block). Ranks b × FineAt D.M b) D.M r (λ b p h f. (h, f)) g)))
 
-  direction_good : (H : Block → Type 0) (r : BlockRead)
+  direction_good : (H : Block → Type 0) (r : Option (Block × ℕ))
       → ((b : Block) (dir : ℕ) → H b → H (directed b dir)) → Has H r → Has H (add_direction s r)
   unfolding add_direction
-  direction_good H (R.Read b n) keep g = go (ltb n (length s))
+  direction_good H (Some (b, n)) keep g = go (ltb n (length s))
     where
-      go : (t : Bool) → Has H (cond t (R.Read (directed b (get_or s n 0)) (n + 1)) R.Damaged)
+      go : (t : Bool) → Has H (cond t (Some (directed b (get_or s n 0), n + 1)) None)
       go true = keep b (get_or s n 0) g
       go false = tt
-  direction_good H R.Damaged keep g = tt
+  direction_good H None keep g = tt
 
   decode_good : Bytes s → Has (λ (b : Block). Ranks b × FineAt D.M b × FineAt D.N b × FineAt D.Theta b × FineAt D.T b)
       (decode set last s)
@@ -198,7 +190,7 @@ module _ (set : ℕ) (last : Last) (s : List ℕ) (known : Known last)
       (λ b dir g. g) (all_good (place_read last s) (place_good last s h))
 
   -- A DECODED BLOCK CAN BE QUEUED
-  pub decoded_can : (b : Block) (count : ℕ) → ((i : ℕ) → get_or s i 0 < 256) → decode set last s ≡ R.Read b count
+  pub decoded_can : (b : Block) (count : ℕ) → ((i : ℕ) → get_or s i 0 < 256) → decode set last s ≡ Some (b, count)
       → b.x.index < 2 ^ 47 → b.y.index < 2 ^ 47 → CanQueue set b
   decoded_can b count h e p q =
       made (subst (Has (λ (b : Block). Ranks b × FineAt D.M b × FineAt D.N b × FineAt D.Theta b × FineAt D.T b)) e

@@ -1,4 +1,5 @@
 -- Laws of the list of directions in use: its length, and what stands at a place. Assumes nothing.
+use Rattle.std.specs.Prelude.{Some, None}
 use mathlib.Core.Path.{◌≡◌, refl, sym, ◌∙◌}
 use mathlib.Core.Bool.{Bool, true, false, cond}
 use mathlib.Core.List.{List, [], ◌∷◌}
@@ -8,7 +9,6 @@ use lib.ListN.{length}
 use borrow.Author.Tests.{ne_eqb}
 use Rattle.queue.specs.declared.directions.Direction.{Direction}
 use Rattle.queue.specs.declared.directions.Direction.TheVariants as D
-use Rattle.queue.specs.declared.directions.DirectionAt.TheVariants as A
 use Rattle.queue.specs.Directions.{in_use, used_of, directions, parameters, direction_at}
 use Rattle.queue.specs.DirectionsComputed.{ones}
 
@@ -53,11 +53,11 @@ module _ (set b c d e : ℕ) (is_m : b ≡ ones (in_use set D.M)) (is_n : c ≡ 
 
 -- the first of a list, where it is in use and asked for
 pub at_first : (set : ℕ) (d : Direction) (ds : List Direction) (at k : ℕ) → k ≡ ones (in_use set d) → at < k
-    → direction_at (used_of set (d ∷ ds)) at ≡ A.Along d
+    → direction_at (used_of set (d ∷ ds)) at ≡ Some d
 unfolding used_of direction_at
 at_first set d ds at k e h = go (in_use set d) at (rw e at h)
   where
-    go : (b : Bool) (i : ℕ) → i < ones b → direction_at (cond b (d ∷ used_of set ds) (used_of set ds)) i ≡ A.Along d
+    go : (b : Bool) (i : ℕ) → i < ones b → direction_at (cond b (d ∷ used_of set ds) (used_of set ds)) i ≡ Some d
     go true zero h = refl
     go true (suc i) h = absurd (omega arith)
     go false i h = absurd (omega arith)
@@ -76,7 +76,7 @@ at_later set d ds at k e h = rw e (go (in_use set d) at (rw e at h))
 
 -- the places of the parameters in use, by the counts of those before
 module _ (set at : ℕ) (m : ℕ) (is_m : m ≡ ones (in_use set D.M)) where
-  pub m_at : at < m → A.Along D.M ≡ direction_at (used_of set parameters) at
+  pub m_at : at < m → Some D.M ≡ direction_at (used_of set parameters) at
   m_at h = sym (at_first set D.M (D.N ∷ D.Theta ∷ D.T ∷ []) at m is_m h)
 
   module _ (n : ℕ) (is_n : n ≡ ones (in_use set D.N)) where
@@ -84,7 +84,7 @@ module _ (set at : ℕ) (m : ℕ) (is_m : m ≡ ones (in_use set D.M)) where
         ≡ direction_at (used_of set (D.N ∷ D.Theta ∷ D.T ∷ [])) (at - m)
     past_m h = at_later set D.M (D.N ∷ D.Theta ∷ D.T ∷ []) at m is_m h
 
-    pub n_at : m ≤ at → at < m + n → A.Along D.N ≡ direction_at (used_of set parameters) at
+    pub n_at : m ≤ at → at < m + n → Some D.N ≡ direction_at (used_of set parameters) at
     n_at h k = sym (past_m h ∙ at_first set D.N (D.Theta ∷ D.T ∷ []) (at - m) n is_n (omega arith))
 
     past_n : m + n ≤ at → direction_at (used_of set parameters) at
@@ -92,7 +92,7 @@ module _ (set at : ℕ) (m : ℕ) (is_m : m ≡ ones (in_use set D.M)) where
     past_n h = past_m (omega arith) ∙ at_later set D.N (D.Theta ∷ D.T ∷ []) (at - m) n is_n (omega arith)
 
     module _ (theta : ℕ) (is_theta : theta ≡ ones (in_use set D.Theta)) where
-      pub theta_at : m + n ≤ at → at < m + n + theta → A.Along D.Theta ≡ direction_at (used_of set parameters) at
+      pub theta_at : m + n ≤ at → at < m + n + theta → Some D.Theta ≡ direction_at (used_of set parameters) at
       theta_at h k = sym (past_n h ∙ at_first set D.Theta (D.T ∷ []) (at - m - n) theta is_theta (omega arith))
 
       past_theta : m + n + theta ≤ at
@@ -100,10 +100,10 @@ module _ (set at : ℕ) (m : ℕ) (is_m : m ≡ ones (in_use set D.M)) where
       past_theta h = past_n (omega arith) ∙ at_later set D.Theta (D.T ∷ []) (at - m - n) theta is_theta (omega arith)
 
       module _ (t : ℕ) (is_t : t ≡ ones (in_use set D.T)) where
-        pub t_at : m + n + theta ≤ at → at < m + n + theta + t → A.Along D.T ≡ direction_at (used_of set parameters) at
+        pub t_at : m + n + theta ≤ at → at < m + n + theta + t → Some D.T ≡ direction_at (used_of set parameters) at
         t_at h k = sym (past_theta h ∙ at_first set D.T [] (at - m - n - theta) t is_t (omega arith))
 
-        pub beyond_all : m + n + theta + t ≤ at → A.Beyond ≡ direction_at (used_of set parameters) at
+        pub beyond_all : m + n + theta + t ≤ at → None ≡ direction_at (used_of set parameters) at
         beyond_all h =
             sym (past_theta (omega arith) ∙ at_later set D.T [] (at - m - n - theta) t is_t (omega arith)
             ∙ unfold used_of direction_at in refl)

@@ -1,5 +1,6 @@
 -- A level's byte against document 01's signed level: it is written and read as the level's two's complement, as the
 -- logic itself has it for the bits of a signed byte (`of_z w8`, `to_z w8`). Assumes nothing.
+use Rattle.std.specs.Prelude.{Option, Some, None}
 use mathlib.Core.Path.{◌≡◌, refl, sym, ap}
 use mathlib.Core.Logic.{◌↔◌}
 use mathlib.Core.Bool.{false, ◌&&◌, true≢false}
@@ -12,8 +13,6 @@ use mir.Syntax.{w8}
 use mir.Val.{to_z, of_z}
 use borrow.Author.Tests.{lt-ltb, le-ltb, le-leb, lt-leb}
 use Rattle.coordinate.specs.Axis.{level}
-use Rattle.queue.specs.declared.read.LevelRead.{LevelRead}
-use Rattle.queue.specs.declared.read.LevelRead.TheVariants as L
 use Rattle.queue.specs.Code.{level_byte}
 use Rattle.queue.specs.Decode.{level_of}
 
@@ -25,25 +24,25 @@ byte_of_level rank h = elim (dec_lt rank 48) [
 ]
 
 -- reading: the rank that was read
-abbrev rank_in : LevelRead → ℕ
-rank_in (L.Rank r) = r
-rank_in L.Damaged = 0
+abbrev rank_in : Option ℕ → ℕ
+rank_in (Some r) = r
+rank_in None = 0
 
-same_rank : (a r : ℕ) → L.Rank a ≡ L.Rank r → r ≡ a
+same_rank : (a r : ℕ) → Some a ≡ Some r → r ≡ a
 same_rank a r e = sym (ap rank_in e)
 
-no_rank : {P : Type 0} (r : ℕ) → L.Damaged ≡ L.Rank r → P
+no_rank : {P : Type 0} (r : ℕ) → None ≡ Some r → P
 no_rank r e = absurd (let z : ◌≡◌ {A = ℕ} 0 1 = cc in omega arith)
 
-pub level_of_byte : (byte r : ℕ) → byte < 256 → level_of byte ≡ L.Rank r → level r ≡ to_z w8 byte
+pub level_of_byte : (byte r : ℕ) → byte < 256 → level_of byte ≡ Some r → level r ≡ to_z w8 byte
 level_of_byte byte r h e = elim (dec_lt byte 16) [
-  | yes k ↦ (let e' : L.Rank (byte + 48) ≡ L.Rank r = rw (le-leb byte 15 (omega arith)) at e in
+  | yes k ↦ (let e' : Some (byte + 48) ≡ Some r = rw (le-leb byte 15 (omega arith)) at e in
       let f : r ≡ byte + 48 = same_rank (byte + 48) r e' in
       rw (f, lt-ltb byte 128 (omega arith), le-ltb (byte + 48) 48 (omega arith)) (ap pos (omega arith)))
   | no k ↦ elim (dec_lt byte 224) [
-    | yes j ↦ (let e' : L.Damaged ≡ L.Rank r = rw (lt-leb byte 15 (omega arith), lt-leb 224 byte j) at e in
+    | yes j ↦ (let e' : None ≡ Some r = rw (lt-leb byte 15 (omega arith), lt-leb 224 byte j) at e in
         no_rank r e')
-    | no j ↦ (let e' : L.Rank (byte - 208) ≡ L.Rank r =
+    | no j ↦ (let e' : Some (byte - 208) ≡ Some r =
         rw (lt-leb byte 15 (omega arith), le-leb 224 byte (omega arith)) at e in
         let f : r ≡ byte - 208 = same_rank (byte - 208) r e' in
         rw (f, le-ltb byte 128 (omega arith), lt-ltb (byte - 208) 48 (omega arith)) (ap negsuc (omega arith)))
@@ -52,7 +51,7 @@ level_of_byte byte r h e = elim (dec_lt byte 16) [
 
 -- and which bytes are none of a level from -32 to 15
 pub no_level_of_byte : (byte : ℕ) → byte < 256
-    → (level_of byte ≡ L.Damaged) ↔ (le_z (negsuc 31) (to_z w8 byte) && le_z (to_z w8 byte) (pos 15) ≡ false)
+    → (level_of byte ≡ None) ↔ (le_z (negsuc 31) (to_z w8 byte) && le_z (to_z w8 byte) (pos 15) ≡ false)
 no_level_of_byte byte h = elim (dec_lt byte 128) [
   | yes k ↦ rw (lt-ltb byte 128 k) (elim (dec_lt byte 16) [
     | yes j ↦ rw (le-leb byte 15 (omega arith)) (λ e. no_rank _ (sym e), λ e. absurd (true≢false e))

@@ -1,4 +1,5 @@
 -- Sets without parameters: they are as set 0, and a block's code there is its place and its direction. Assumes nothing.
+use Rattle.queue.specs.Queue.{code_appended, code_measured}
 use mathlib.Core.Path.{◌≡◌, refl, sym, ◌∙◌}
 use mathlib.Core.Bool.{Bool, true, false, ◌&&◌, and_comm}
 use mathlib.Core.List.{List, [], ◌∷◌, ◌++◌}
@@ -12,8 +13,6 @@ use Rattle.coordinate.specs.Axis.{ordinary_floor}
 use Rattle.coordinate.specs.Lone.{legal}
 use Rattle.queue.specs.declared.Block.{Block}
 use Rattle.queue.specs.declared.Last.{Last}
-use Rattle.queue.specs.declared.Appended.TheVariants as A
-use Rattle.queue.specs.declared.Measured.TheVariants as M
 use Rattle.queue.specs.Ring.{fits_ring, wrapped}
 use Rattle.queue.specs.RingComputed.{straight_room}
 use Rattle.queue.specs.Block.{as_queued, remembered}
@@ -105,7 +104,7 @@ module _ (back : Last) (b : Block) where
 
   pub measured_place : (count : ℕ) (last : Last) → codable 0 back b ≡ true → count ≡ length (place_code back b)
       → last ≡ remembered (as_queued 0 b)
-      → M.Bytes (count + 1) last ≡ measured 0 back b
+      → code_measured (count + 1) last ≡ measured 0 back b
   unfolding measured
   measured_place count last e c l =
       let k : count + 1 ≡ length (code_of_kept 0 back b) = rw c (sym plain_length) in rw (e, k, l)
@@ -135,13 +134,13 @@ pub straight_done : (ring : List ℕ) (head used : ℕ) (back : Last) (b : Block
     → fits_ring (length ring) head used ≡ true → codable 0 back b ≡ true → straight_room 19 (length ring) head used ≡ true
     → from ≡ wrapped (length ring) (head + used) → Written ring from (code_of_kept 0 back b) end ring₁
     → last ≡ remembered (as_queued 0 b)
-    → (A.Done last (used + (end - from)) ≡ appended (length ring) head used 0 back b)
+    → (code_appended last (used + (end - from)) ≡ appended (length ring) head used 0 back b)
     × (ring₁ ≡ appended_ring ring head used 0 back b)
 straight_done ring head used back b from end ring₁ last e f g w (n, r) l =
     let few : length (code_of_kept 0 back b) ≤ 19 = plain_few back b f in
     let (before_end, room) = straight_both (length ring) head used g in
     let fits = fits_both (length ring) head used e in
     let inside : from < length ring = rw w (tail_inside (length ring) head used fits.0 fits.1) in
-    append_stored ring head used 0 back b (as_queued 0 b) (end - from) refl (omega (arith, n)) e f last ring₁
+    append_stored ring head used 0 back b (as_queued 0 b) refl e f (end - from) last ring₁ (omega (arith, n))
     (omega (arith, n)) l
     (r ∙ sym (stored_straight (code_of_kept 0 back b) ring from (omega (arith, w, before_end, few, inside))) ∙ rw w)

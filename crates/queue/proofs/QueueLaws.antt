@@ -1,5 +1,9 @@
 -- The laws that callers cite: what bytes hold, that append appends and take gives the first, and that the bytes
 -- decode to it. Assumes nothing.
+use Rattle.std.specs.Prelude.{Err}
+use Rattle.queue.specs.declared.QueueError.TheVariants as Q
+use Rattle.queue.specs.Queue.{front_taken, code_appended, code_measured}
+use Rattle.std.specs.Prelude.{Some}
 use mathlib.Core.Path.{◌≡◌, refl, sym, ap, ◌∙◌}
 use mathlib.Core.Bool.{true}
 use mathlib.Core.List.{List, [], ◌∷◌, ◌++◌, append_assoc, append-nil}
@@ -13,11 +17,7 @@ use Rattle.base.proofs.ListLaws.{every_append}
 use Rattle.interval.specs.Bounds.{InFormat}
 use Rattle.queue.specs.declared.Block.{Block}
 use Rattle.queue.specs.declared.Last.{Last}
-use Rattle.queue.specs.declared.Taken.TheVariants as T
-use Rattle.queue.specs.declared.Appended.TheVariants as A
-use Rattle.queue.specs.declared.Measured.TheVariants as M
 use Rattle.queue.specs.declared.directions.Direction.{Direction}
-use Rattle.queue.specs.declared.read.BlockRead.TheVariants as R
 use Rattle.queue.specs.Ring.{content, fits_ring, wrapped, stored_behind}
 use Rattle.queue.specs.Block.{parameter_of, recalled, as_queued, remembered}
 use Rattle.queue.specs.Code.{encode, can_queue, indices_known}
@@ -92,7 +92,7 @@ holds_one {set} {front} {back} {bytes} {q} {b} h c = one (holds_append (b ∷ []
 -- TAKING GIVES THE FIRST, and leaves the rest
 pub holds_take : {set : ℕ} {front back : Last} {bytes : List ℕ} {b : Block} {q : List Block}
     → BytesHold set front back bytes (b ∷ q)
-    → (decode set front bytes ≡ R.Read b (length (encode set front b)))
+    → (decode set front bytes ≡ Some (b, length (encode set front b)))
     × BytesHold set (remembered b) back (drop (length (encode set front b)) bytes) q
 unfolding queue_codes memory
 holds_take {set} {front} {back} {bytes} {b} {q} h =
@@ -111,7 +111,7 @@ holds_take {set} {front} {back} {bytes} {b} {q} h =
 pub kept_round : (set : ℕ) (last : Last) (b : Block) (rest : List ℕ) → codable set last b ≡ true
     → ((d : Direction) → InFormat (parameter_of b d))
     → ((d : Direction) → InFormat (recalled last d))
-    → decode set last (code_of_kept set last b ++ rest) ≡ R.Read (as_queued set b) (length (code_of_kept set last b))
+    → decode set last (code_of_kept set last b ++ rest) ≡ Some (as_queued set b, length (code_of_kept set last b))
 kept_round set last b rest e f g =
     let k = known_indices last (and_right (can_queue set b) (indices_known last) e) in
     decode_encode set last (as_queued set b) rest (record { x = k.0; y = k.1; format = g })
@@ -124,7 +124,7 @@ known_back {set} {front} {q = q} h = rw h.back_is (known_memory set front q h.kn
 
 -- one block more of the queue
 queue_step : (set : ℕ) (front : Last) (n : ℕ) (bytes : List ℕ) (b : Block) (count : ℕ)
-    → decode set front bytes ≡ R.Read b count
+    → decode set front bytes ≡ Some (b, count)
     → queue_of set front (suc n) bytes ≡ b ∷ queue_of set (remembered b) n (drop count bytes)
 unfolding queue_of
 queue_step set front n bytes b count e = rw e
@@ -154,12 +154,12 @@ pub can_code : (set : ℕ) (back : Last) (b : Block) → Known back → CanQueue
 can_code set back b k c = and_both (can_queue set b) (indices_known back) (can_test set b c) (known_test back k)
 
 pub measure_answers : (set : ℕ) (back : Last) (b : Block) → Known back → CanQueue set b
-    → measured set back b ≡ M.Bytes (length (encode set back b)) (remembered b)
+    → measured set back b ≡ code_measured (length (encode set back b)) (remembered b)
 unfolding measured
 measure_answers set back b k c = rw (can_code set back b k c, as_queued_is set b c)
 
 pub append_stores : (ring : List ℕ) (head used set : ℕ) (back : Last) (b : Block) (last : Last) (n : ℕ)
-    → appended (length ring) head used set back b ≡ A.Done last n
+    → appended (length ring) head used set back b ≡ code_appended last n
     → appended_ring ring head used set back b ≡ stored_behind ring head used (code_of_kept set back b)
 unfolding appended_ring
 append_stores ring head used set back b last n e = rw e
@@ -171,8 +171,7 @@ module _ (ring : List ℕ) (head used set : ℕ) (fits : fits_ring (length ring)
   pub take_answers : {front back : Last} {b : Block} {q : List Block}
       → BytesHold set front back (content ring head used) (b ∷ q)
       → (taken ring head used set front
-      ≡ T.Front b (remembered b) (wrapped (length ring) (head + length (encode set front b)))
-      (used - length (encode set front b)))
+      ≡ front_taken b (remembered b) (wrapped (length ring) (head + length (encode set front b))) (used - length (encode set front b)))
       × (length (encode set front b) ≤ used)
       × BytesHold set (remembered b) back
       (content ring (wrapped (length ring) (head + length (encode set front b)))
@@ -191,13 +190,13 @@ module _ (ring : List ℕ) (head used set : ℕ) (fits : fits_ring (length ring)
 
   -- what take answers is the first of the queue, whatever the bytes
   pub take_first : (front : Last) (b : Block) (last : Last) (head₁ used₁ n : ℕ)
-      → taken ring head used set front ≡ T.Front b last head₁ used₁
+      → taken ring head used set front ≡ front_taken b last head₁ used₁
       → queue_of set front (suc n) (content ring head used) ≡ b ∷ queue_of set last n (content ring head₁ used₁)
   take_first front b last head₁ used₁ n e =
       let t = taken_parts ring head used set front b last head₁ used₁ e in
       go t.count t.read t.last_is t.head_is t.used_is
     where
-      go : (k : ℕ) → decode set front (content ring head used) ≡ R.Read b k → last ≡ remembered b
+      go : (k : ℕ) → decode set front (content ring head used) ≡ Some (b, k) → last ≡ remembered b
           → head₁ ≡ wrapped (length ring) (head + k) → used₁ ≡ used - k
           → queue_of set front (suc n) (content ring head used) ≡ b ∷ queue_of set last n (content ring head₁ used₁)
       go k d l h u =
@@ -213,19 +212,19 @@ module _ (ring : List ℕ) (head used set : ℕ) (fits : fits_ring (length ring)
   -- the first of what the ring holds comes out, and what is left decodes to the rest
   pub take_queue : {front back : Last} {b : Block} {q : List Block}
       → BytesHold set front back (content ring head used) (b ∷ q)
-      → (head₁ : ℕ) × (used₁ : ℕ) × (taken ring head used set front ≡ T.Front b (remembered b) head₁ used₁)
+      → (head₁ : ℕ) × (used₁ : ℕ) × (taken ring head used set front ≡ front_taken b (remembered b) head₁ used₁)
       × (queue_of set (remembered b) (length q) (content ring head₁ used₁) ≡ q)
   take_queue {q = q} h = let (e, k, r) = take_answers h in (_, _, e, queue_is q r)
 
   -- an empty queue has no front
   pub take_none : {front back : Last} → BytesHold set front back (content ring head used) []
-      → taken ring head used set front ≡ T.Damaged
+      → taken ring head used set front ≡ Err Q.Damaged
   unfolding taken queue_codes
   take_none {front} h = rw (fits, h.bytes_are, none_decodes set front)
 
   -- the head taken lies in the ring, and its bytes are free
   pub take_frees : (front : Last) (b : Block) (last : Last) (head₁ used₁ : ℕ)
-      → taken ring head used set front ≡ T.Front b last head₁ used₁
+      → taken ring head used set front ≡ front_taken b last head₁ used₁
       → (head₁ < length ring) × (used₁ < used)
   take_frees front b last head₁ used₁ e =
       let t = taken_parts ring head used set front b last head₁ used₁ e in
@@ -243,7 +242,7 @@ module _ (ring : List ℕ) (head used set : ℕ) (fits : fits_ring (length ring)
   pub append_answers : {front back : Last} {q : List Block} (b : Block)
       → BytesHold set front back (content ring head used) q → CanQueue set b
       → used + length (encode set back b) ≤ length ring
-      → (appended (length ring) head used set back b ≡ A.Done (remembered b) (used + length (encode set back b)))
+      → (appended (length ring) head used set back b ≡ code_appended (remembered b) (used + length (encode set back b)))
       × (appended_ring ring head used set back b ≡ stored_behind ring head used (encode set back b))
       × BytesHold set front (remembered b)
       (content (stored_behind ring head used (encode set back b)) head (used + length (encode set back b)))
@@ -254,7 +253,7 @@ module _ (ring : List ℕ) (head used set : ℕ) (fits : fits_ring (length ring)
       let one : BytesHold set front (remembered b) (content ring head used ++ code) (q ++ (b ∷ [])) = holds_one h c in
       let is : as_queued set b ≡ b = as_queued_is set b c in
       let can : codable set back b ≡ true = can_code set back b (known_back h) c in
-      let done : appended (length ring) head used set back b ≡ A.Done (remembered b) (used + length code) =
+      let done : appended (length ring) head used set back b ≡ code_appended (remembered b) (used + length code) =
       append_gives (length ring) head used set back b fits can (rw is room) ∙ rw is in (
         done,
         append_stores ring head used set back b (remembered b) (used + length code) done ∙ rw is,
@@ -264,7 +263,7 @@ module _ (ring : List ℕ) (head used set : ℕ) (fits : fits_ring (length ring)
   -- a ring that holds q holds q and then b, as the queue keeps it, once append was done with b
   pub append_holds : {front back : Last} {q : List Block} (b : Block) (last : Last) (used₁ : ℕ)
       → BytesHold set front back (content ring head used) q
-      → ((d : Direction) → InFormat (parameter_of b d)) → appended (length ring) head used set back b ≡ A.Done last used₁
+      → ((d : Direction) → InFormat (parameter_of b d)) → appended (length ring) head used set back b ≡ code_appended last used₁
       → BytesHold set front last (content (appended_ring ring head used set back b) head used₁)
       (q ++ (as_queued set b ∷ []))
   append_holds {front} {back} {q} b last used₁ h format e =
@@ -284,7 +283,7 @@ module _ (ring : List ℕ) (head used set : ℕ) (fits : fits_ring (length ring)
   -- so it decodes to q and then b
   pub append_queue : {front back : Last} {q : List Block} (b : Block) (last : Last) (used₁ : ℕ)
       → BytesHold set front back (content ring head used) q
-      → ((d : Direction) → InFormat (parameter_of b d)) → appended (length ring) head used set back b ≡ A.Done last used₁
+      → ((d : Direction) → InFormat (parameter_of b d)) → appended (length ring) head used set back b ≡ code_appended last used₁
       → queue_of set front (length q + 1) (content (appended_ring ring head used set back b) head used₁)
       ≡ q ++ (as_queued set b ∷ [])
   append_queue {q = q} b last used₁ h format e =
@@ -293,7 +292,7 @@ module _ (ring : List ℕ) (head used set : ℕ) (fits : fits_ring (length ring)
 
   -- the ring keeps its length, and the use grows and does not pass it
   pub append_fills : (back : Last) (b : Block) (last : Last) (used₁ : ℕ)
-      → appended (length ring) head used set back b ≡ A.Done last used₁
+      → appended (length ring) head used set back b ≡ code_appended last used₁
       → (length (appended_ring ring head used set back b) ≡ length ring) × (used < used₁) × (used₁ ≤ length ring)
   append_fills back b last used₁ e =
       let t = appended_parts (length ring) head used set back b last used₁ e in (

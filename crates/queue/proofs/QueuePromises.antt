@@ -3,6 +3,10 @@
 -- the codes of the blocks q, the first against `front`, each other against the one before, that `back` is what is
 -- remembered after the last, and that each of q comes out as it went in. A block or a memory of f64s is asked for
 -- where bounds are spelled out: those of the code are. Assumes nothing.
+use Rattle.std.specs.Prelude.{Err}
+use Rattle.queue.specs.declared.QueueError.TheVariants as Q
+use Rattle.queue.specs.Queue.{front_taken, code_appended, code_measured}
+use Rattle.std.specs.Prelude.{Some, None}
 use mathlib.Core.Path.{◌≡◌, ap}
 use mathlib.Core.Logic.{◌⊎◌, ◌↔◌}
 use mathlib.Core.Bool.{true, false, ◌&&◌}
@@ -17,12 +21,7 @@ use Rattle.coordinate.specs.Axis.{level}
 use Rattle.interval.specs.Bounds.{InFormat}
 use Rattle.queue.specs.declared.Block.{Block}
 use Rattle.queue.specs.declared.Last.{Last}
-use Rattle.queue.specs.declared.Taken.TheVariants as T
-use Rattle.queue.specs.declared.Appended.TheVariants as A
-use Rattle.queue.specs.declared.Measured.TheVariants as M
 use Rattle.queue.specs.declared.directions.Direction.{Direction}
-use Rattle.queue.specs.declared.read.LevelRead.TheVariants as L
-use Rattle.queue.specs.declared.read.BlockRead.TheVariants as R
 use Rattle.queue.specs.Ring.{content, fits_ring, wrapped, stored, stored_behind}
 use Rattle.queue.specs.Block.{parameter_of, recalled, as_queued, remembered}
 use Rattle.queue.specs.Code.{level_byte}
@@ -46,18 +45,18 @@ module _ (ring : List ℕ) (head used set : ℕ) (front : Last) where
   -- take: 0 exactly if head and use fit the ring and the bytes used start with a block's code
   pub take_zero_exactly : (taken_number (taken ring head used set front) ≡ 0)
       ↔ ((fits_ring (length ring) head used ≡ true)
-      × ((b : Block) × (count : ℕ) × (decode set front (content ring head used) ≡ R.Read b count)))
+      × ((b : Block) × (count : ℕ) × (decode set front (content ring head used) ≡ Some (b, count))))
   take_zero_exactly = take_is_0 ring head used set front
 
   -- and then it is that block, what is remembered of it, and the head and the use behind its bytes
   pub take_value : (b : Block) (count : ℕ) → fits_ring (length ring) head used ≡ true
-      → decode set front (content ring head used) ≡ R.Read b count
-      → taken ring head used set front ≡ T.Front b (remembered b) (wrapped (length ring) (head + count)) (used - count)
+      → decode set front (content ring head used) ≡ Some (b, count)
+      → taken ring head used set front ≡ front_taken b (remembered b) (wrapped (length ring) (head + count)) (used - count)
   take_value = take_gives ring head used set front
 
   -- the same by its values
   pub take_values : (b : Block) (count : ℕ) → fits_ring (length ring) head used ≡ true
-      → decode set front (content ring head used) ≡ R.Read b count
+      → decode set front (content ring head used) ≡ Some (b, count)
       → (taken_block (taken ring head used set front) ≡ b) × (taken_last (taken ring head used set front) ≡ remembered b)
       × (taken_head (taken ring head used set front) ≡ wrapped (length ring) (head + count))
       × (taken_used (taken ring head used set front) ≡ used - count)
@@ -67,7 +66,7 @@ module _ (ring : List ℕ) (head used set : ℕ) (front : Last) where
 
   -- 8 exactly if they do not fit, or the bytes do not decode
   pub take_eight_exactly : (taken_number (taken ring head used set front) ≡ 8)
-      ↔ ((fits_ring (length ring) head used ≡ false) ⊎ (decode set front (content ring head used) ≡ R.Damaged))
+      ↔ ((fits_ring (length ring) head used ≡ false) ⊎ (decode set front (content ring head used) ≡ None))
   take_eight_exactly = take_is_8 ring head used set front
 
   -- no byte past those used plays a part: a ring as long that holds the same bytes has the same answer
@@ -88,11 +87,11 @@ module _ (ring : List ℕ) (head used set : ℕ) (back : Last) (b : Block) where
   pub append_value : fits_ring (length ring) head used ≡ true → codable set back b ≡ true
       → used + length (code_of_kept set back b) ≤ length ring
       → appended (length ring) head used set back b
-      ≡ A.Done (remembered (as_queued set b)) (used + length (code_of_kept set back b))
+      ≡ code_appended (remembered (as_queued set b)) (used + length (code_of_kept set back b))
   append_value = append_gives (length ring) head used set back b
 
   -- with its code stored behind the bytes used
-  pub append_bytes : (last : Last) (used₁ : ℕ) → appended (length ring) head used set back b ≡ A.Done last used₁
+  pub append_bytes : (last : Last) (used₁ : ℕ) → appended (length ring) head used set back b ≡ code_appended last used₁
       → appended_ring ring head used set back b ≡ stored_behind ring head used (code_of_kept set back b)
   append_bytes = append_stores ring head used set back b
 
@@ -119,7 +118,7 @@ module _ (set : ℕ) (back : Last) (b : Block) where
 
   -- and then it is the length of the code that append would store, and the memory that it would answer
   pub measure_value : codable set back b ≡ true
-      → measured set back b ≡ M.Bytes (length (code_of_kept set back b)) (remembered (as_queued set b))
+      → measured set back b ≡ code_measured (length (code_of_kept set back b)) (remembered (as_queued set b))
   measure_value = measure_gives set back b
 
   -- 8 exactly if it cannot
@@ -154,12 +153,12 @@ pub level_written : (rank : ℕ) → rank < 64 → level_byte rank ≡ of_z w8 (
 level_written = byte_of_level
 
 -- a byte is read as the level whose two's complement it is
-pub level_read_back : (byte rank : ℕ) → byte < 256 → level_of byte ≡ L.Rank rank → level rank ≡ to_z w8 byte
+pub level_read_back : (byte rank : ℕ) → byte < 256 → level_of byte ≡ Some rank → level rank ≡ to_z w8 byte
 level_read_back = level_of_byte
 
 -- and is damage exactly if that is none of -32 to 15 (`negsuc 31` is -32)
 pub level_unread : (byte : ℕ) → byte < 256
-    → (level_of byte ≡ L.Damaged) ↔ (le_z (negsuc 31) (to_z w8 byte) && le_z (to_z w8 byte) (pos 15) ≡ false)
+    → (level_of byte ≡ None) ↔ (le_z (negsuc 31) (to_z w8 byte) && le_z (to_z w8 byte) (pos 15) ≡ false)
 level_unread = no_level_of_byte
 
 -- decode after encode: the code of a block that can be coded, whatever follows it, is read as the block, its used
@@ -167,7 +166,7 @@ level_unread = no_level_of_byte
 pub decode_after_encode : (set : ℕ) (last : Last) (b : Block) (rest : List ℕ) → codable set last b ≡ true
     → ((d : Direction) → InFormat (parameter_of b d))
     → ((d : Direction) → InFormat (recalled last d))
-    → decode set last (code_of_kept set last b ++ rest) ≡ R.Read (as_queued set b) (length (code_of_kept set last b))
+    → decode set last (code_of_kept set last b ++ rest) ≡ Some (as_queued set b, length (code_of_kept set last b))
 decode_after_encode = kept_round
 
 -- content after storing: what the ring held, then the bytes stored, if there is room
@@ -205,7 +204,7 @@ module _ (ring : List ℕ) (head used set : ℕ) (fits : fits_ring (length ring)
   -- append appends: where the ring held q, it decodes to q and then the block as kept, once append is done
   pub append_appends : {front back : Last} {q : List Block} (b : Block) (last : Last) (used₁ : ℕ)
       → BytesHold set front back (content ring head used) q
-      → ((d : Direction) → InFormat (parameter_of b d)) → appended (length ring) head used set back b ≡ A.Done last used₁
+      → ((d : Direction) → InFormat (parameter_of b d)) → appended (length ring) head used set back b ≡ code_appended last used₁
       → queue_of set front (length q + 1) (content (appended_ring ring head used set back b) head used₁)
       ≡ q ++ (as_queued set b ∷ [])
   append_appends = append_queue ring head used set fits
@@ -213,38 +212,38 @@ module _ (ring : List ℕ) (head used set : ℕ) (fits : fits_ring (length ring)
   -- and holds that, for the memory that append answers
   pub append_keeps_holding : {front back : Last} {q : List Block} (b : Block) (last : Last) (used₁ : ℕ)
       → BytesHold set front back (content ring head used) q
-      → ((d : Direction) → InFormat (parameter_of b d)) → appended (length ring) head used set back b ≡ A.Done last used₁
+      → ((d : Direction) → InFormat (parameter_of b d)) → appended (length ring) head used set back b ≡ code_appended last used₁
       → BytesHold set front last (content (appended_ring ring head used set back b) head used₁)
       (q ++ (as_queued set b ∷ []))
   append_keeps_holding = append_holds ring head used set fits
 
   -- the ring keeps its length, and the use grows, to that length at most
   pub append_stays_inside : (back : Last) (b : Block) (last : Last) (used₁ : ℕ)
-      → appended (length ring) head used set back b ≡ A.Done last used₁
+      → appended (length ring) head used set back b ≡ code_appended last used₁
       → (length (appended_ring ring head used set back b) ≡ length ring) × (used < used₁) × (used₁ ≤ length ring)
   append_stays_inside = append_fills ring head used set fits
 
   -- take removes the first: where the ring held b and then q, take answers b, and what is left decodes to q
   pub take_removes : {front back : Last} {b : Block} {q : List Block}
       → BytesHold set front back (content ring head used) (b ∷ q)
-      → (head₁ : ℕ) × (used₁ : ℕ) × (taken ring head used set front ≡ T.Front b (remembered b) head₁ used₁)
+      → (head₁ : ℕ) × (used₁ : ℕ) × (taken ring head used set front ≡ front_taken b (remembered b) head₁ used₁)
       × (queue_of set (remembered b) (length q) (content ring head₁ used₁) ≡ q)
   take_removes = take_queue ring head used set fits
 
   -- whatever the bytes: what take answers is the first of what they decode to, and the rest is what they decode to
   -- afterwards
   pub take_is_first : (front : Last) (b : Block) (last : Last) (head₁ used₁ n : ℕ)
-      → taken ring head used set front ≡ T.Front b last head₁ used₁
+      → taken ring head used set front ≡ front_taken b last head₁ used₁
       → queue_of set front (suc n) (content ring head used) ≡ b ∷ queue_of set last n (content ring head₁ used₁)
   take_is_first = take_first ring head used set fits
 
   -- the head taken stays under the ring's length, and the use shrinks
   pub take_stays_inside : (front : Last) (b : Block) (last : Last) (head₁ used₁ : ℕ)
-      → taken ring head used set front ≡ T.Front b last head₁ used₁
+      → taken ring head used set front ≡ front_taken b last head₁ used₁
       → (head₁ < length ring) × (used₁ < used)
   take_stays_inside = take_frees ring head used set fits
 
   -- an empty queue has no front
   pub take_of_none : {front back : Last} → BytesHold set front back (content ring head used) []
-      → taken ring head used set front ≡ T.Damaged
+      → taken ring head used set front ≡ Err Q.Damaged
   take_of_none = take_none ring head used set fits

@@ -1,17 +1,20 @@
 -- Laws of the ring: its parts, what it holds after bytes were stored behind or passed over, and which bytes stay.
 -- Assumes nothing.
+use Rattle.std.specs.Prelude.{Some, slice_get}
+use Rattle.std.proofs.lemmas.Option.{slice_get-get_or, slice_get_past}
+use Rattle.std.proofs.lemmas.List.{take-append-drop}
 use mathlib.Core.Path.{◌≡◌, refl, sym, ap, ◌∙◌}
 use mathlib.Core.Bool.{cond}
 use mathlib.Core.List.{List, [], ◌∷◌, ◌++◌, append_assoc, append-nil}
 use Prim.Native.Nat.{ℕ, zero, suc, ◌+◌, ◌-◌, ◌≤◌, ◌<◌}
 use native.Mathlib.Omega.{arith}
 use native.Mathlib.Nat.{add-zero, add_assoc, sub-zero, add_comm, min-eq_left, min-eq_right}
-use native.Mathlib.Decide.{ℕ_discrete}
+use native.Mathlib.Decide.{ℕ_discrete, dec_lt}
 use native.Mathlib.Numerals.{add-one}
 use lib.Dec.{eqb}
 use lib.ListN.{length, get_or, take, drop, set, length-drop, length-take, length-set, length-append, drop_of_length-le}
 use lib.ListN.{get_or-append}
-use lib.Seq.{sets, take_all, drop-cons, get_or-drop, get_or-append-add, drop-set-add, drop-append-le, drop-append-add}
+use lib.Seq.{sets, length-sets, take_all, get_or-drop, get_or-append-add, drop-set-add, drop-append-le, drop-append-add}
 use lib.Seq.{take-append-le, take-nil, drop-drop, drop-set-lt, take-suc-set, drop-length, get_or-set_other}
 use borrow.Author.Tests.{lt-ltb, le-ltb, eq-eqb, ne_eqb}
 use Rattle.base.proofs.Test.{by_ltb}
@@ -54,6 +57,11 @@ module _ (o n : ℕ × ℕ) (lo ln at : ℕ) where
   unfolding part_place
   place_end h k = rw (le-ltb at lo h, min-eq_right {n = ln} {m = at - lo} k) (behind_at n ln)
 
+-- past both, a part is empty
+part_empty : (o n : List ℕ) (at : ℕ) → length o + length n ≤ at → length (part_of o n at) ≡ 0
+unfolding part_of
+part_empty o n at h = rw (le-ltb at (length o) (omega arith)) (simp length-drop (omega arith))
+
 -- the first byte of a part is the byte of both stretches at that offset
 pub part_head : (o n : List ℕ) (at : ℕ) → at < length o + length n
     → (0 < length (part_of o n at)) × (get_or (part_of o n at) 0 0 ≡ get_or (o ++ n) at 0)
@@ -70,6 +78,19 @@ part_head o n at h =
       get_or-drop (at - length o) n 0 0 ∙ ap (λ (j : ℕ). get_or n j 0) (add-zero (at - length o))
           ∙ sym (get_or-append-add o n (at - length o) 0) ∙ ap (λ (j : ℕ). get_or (o ++ n) j 0) e,
     ))
+
+-- and so it is where both end
+pub part_first : (o n : List ℕ) (at : ℕ) → slice_get (part_of o n at) 0 ≡ slice_get (o ++ n) at
+part_first o n at =
+    elim (dec_lt at (length o + length n)) [
+      | yes h ↦
+          let (some, e) = part_head o n at h in
+          slice_get-get_or (part_of o n at) 0 0 some ∙ ap Some e
+          ∙ sym (slice_get-get_or (o ++ n) at 0 (simp length-append h))
+      | no h ↦
+          slice_get_past (part_of o n at) 0 (omega (arith, part_empty o n at (omega arith)))
+          ∙ sym (slice_get_past (o ++ n) at (simp length-append (omega arith)))
+    ]
 
 -- what lies at an offset of both stretches is the part there, with more behind it where the part lies in the older stretch
 pub part_front : (o n : List ℕ) (at : ℕ) → (rest : List ℕ) × (drop at (o ++ n) ≡ part_of o n at ++ rest)
@@ -91,6 +112,12 @@ pub stretches_length : (ring : List ℕ) (head used : ℕ) → head ≤ length r
 unfolding older_stretch newer_stretch
 stretches_length ring head used h k = simp (length-take, length-drop) (omega arith)
 
+-- what a ring holds, from its stretches
+pub content_of : {o n : List ℕ} (ring : List ℕ) (head used : ℕ) → o ≡ older_stretch ring head used → n ≡ newer_stretch ring head used
+    → o ++ n ≡ content ring head used
+unfolding content
+content_of ring head used p q = rw (p, q)
+
 pub content_length : (ring : List ℕ) (head used : ℕ) → head ≤ length ring → used ≤ length ring
     → length (content ring head used) ≡ used
 unfolding content
@@ -107,24 +134,6 @@ next_end n p h = rw (eq-eqb (p + 1) n h)
 pub next_on : (n p : ℕ) → (p + 1 ≡ n → ⊥) → next n p ≡ p + 1
 next_on n p h = rw (ne_eqb (p + 1) n h)
 
--- one byte stored of those that are left to store
-pub stored_step : (ring source : List ℕ) (p i count : ℕ) → i < count → count ≤ length source
-    → stored (set ring p (get_or source i 0)) (next (length ring) p) (take (count - (i + 1)) (drop (i + 1) source))
-    ≡ stored ring p (take (count - i) (drop i source))
-unfolding stored
-stored_step ring source p i count h k =
-    let e : count - i ≡ suc (count - (i + 1)) = omega arith in
-    let inside : i < length source = omega arith in
-    rw (drop-cons source i 0 inside, e, add-one i)
-
-pub straight_step : (ring source : List ℕ) (p i count : ℕ) → i < count → count ≤ length source
-    → sets (set ring p (get_or source i 0)) (p + 1) (take (count - (i + 1)) (drop (i + 1) source))
-    ≡ sets ring p (take (count - i) (drop i source))
-straight_step ring source p i count h k =
-    let e : count - i ≡ suc (count - (i + 1)) = omega arith in
-    let inside : i < length source = omega arith in
-    rw (drop-cons source i 0 inside, e, add-one i, add-one p)
-
 pub length_stored : (bs ring : List ℕ) (p : ℕ) → length (stored ring p bs) ≡ length ring
 unfolding stored
 length_stored [] ring p = refl
@@ -139,6 +148,28 @@ stored_straight (b ∷ c ∷ cs) ring p h =
     let same : length (set ring p b) ≡ length ring = length-set ring p b in
     rw (next_on (length ring) p (λ e. omega arith), add-one p)
     (stored_straight (c ∷ cs) (set ring p b) (suc p) (omega arith))
+
+-- and those that reach it go on at its start
+stored_turn : (cs bs ring : List ℕ) (p : ℕ) → p < length ring → p + length cs ≡ length ring
+    → stored ring p (cs ++ bs) ≡ stored (sets ring p cs) 0 bs
+unfolding stored
+stored_turn [] bs ring p h e = absurd (omega (arith, e))
+stored_turn (c ∷ []) bs ring p h e = rw (next_end (length ring) p e, stored)
+stored_turn (c ∷ b ∷ cs) bs ring p h e =
+    let same : length (set ring p c) ≡ length ring = length-set ring p c in
+    let on : next (length ring) p ≡ suc p = next_on (length ring) p (λ q. omega (arith, q, e)) ∙ add-one p in
+    ap (λ (q : ℕ). stored (set ring p c) q ((b ∷ cs) ++ bs)) on ∙
+    (stored_turn (b ∷ cs) bs (set ring p c) (suc p) (omega (arith, e)) (omega (arith, e)))
+
+pub stored_round : (source ring : List ℕ) (p room : ℕ) → p < length ring → room ≡ length ring - p → room ≤ length source
+    → length source ≤ length ring
+    → stored ring p source ≡ sets (sets ring p (take room source)) 0 (drop room source)
+stored_round source ring p room h e f g =
+    let front : length (take room source) ≡ room = simp length-take (omega arith) in
+    ap (stored ring p) (sym (take-append-drop room source))
+    ∙ stored_turn (take room source) (drop room source) ring p h (omega (arith, front))
+    ∙ stored_straight (drop room source) (sets ring p (take room source)) 0
+    (simp (length-drop, length-sets) (omega arith))
 
 -- a byte that the stores pass by keeps its value: it lies before the first and after the last of them, round the end
 pub stored_other : (bs ring : List ℕ) (p i : ℕ) → p < length ring → i < length ring → (p ≤ i → p + length bs ≤ i)

@@ -1,4 +1,5 @@
 -- What was written is read: a block's code, whatever follows it, decodes to the block. Assumes nothing.
+use Rattle.std.specs.Prelude.{Some}
 use mathlib.Core.Path.{◌≡◌, refl, sym, ap, ◌∙◌}
 use mathlib.Core.Bool.{Bool, true, false, cond, ◌&&◌}
 use mathlib.Core.List.{List, [], ◌∷◌, ◌++◌, append_assoc}
@@ -14,7 +15,7 @@ use borrow.Author.Tests.{le-leb, lt-leb, lt-ltb, ne_eqb, eqb-true}
 use Rattle.base.specs.Bytes.{big_endian, of_big_endian}
 use Rattle.base.proofs.Test.{by_ltb, cases, and_left, and_right}
 use Rattle.base.proofs.BytesLaws.{length_big, big_round}
-use Rattle.small.specs.declared.ReadAnswer.TheVariants as S
+use Rattle.std.specs.Prelude.{Ok}
 use Rattle.small.specs.Small.{small_code, read_small}
 use Rattle.small.proofs.Reading.{read_written}
 use Rattle.coordinate.specs.declared.Coordinate.{Coordinate}
@@ -28,10 +29,6 @@ use Rattle.interval.proofs.BoundBits.{bits_fit, read_back, no_mark}
 use Rattle.queue.specs.declared.Block.{Block}
 use Rattle.queue.specs.declared.Last.{Last}
 use Rattle.queue.specs.declared.directions.Direction.{Direction}
-use Rattle.queue.specs.declared.read.LevelRead.TheVariants as L
-use Rattle.queue.specs.declared.read.CoordinateRead.TheVariants as C
-use Rattle.queue.specs.declared.read.ParameterRead.TheVariants as P
-use Rattle.queue.specs.declared.read.BlockRead.TheVariants as R
 use Rattle.queue.specs.Directions.{in_use, parameters}
 use Rattle.queue.specs.Block.{whole_line, is_integer, parameter_of, with_parameter, recalled}
 use Rattle.queue.specs.Code.{level_byte, coordinate_code, bounds_code, parameter_code, parameters_code, place_code}
@@ -44,9 +41,9 @@ use Rattle.queue.proofs.Xor.{xor_cancel}
 
 -- ---- a coordinate
 
-level_round : (rank : ℕ) → 16 ≤ rank → rank < 64 → level_of (level_byte rank) ≡ L.Rank rank
+level_round : (rank : ℕ) → 16 ≤ rank → rank < 64 → level_of (level_byte rank) ≡ Some rank
 level_round rank h k =
-    by_ltb (λ (b : ℕ). level_of b ≡ L.Rank rank) rank 48 (rank + 208) (rank - 48)
+    by_ltb (λ (b : ℕ). level_of b ≡ Some rank) rank 48 (rank + 208) (rank - 48)
     (λ m.
     let e : rank + 208 - 208 ≡ rank = omega arith in
     rw (lt-leb (rank + 208) 15 (omega arith), le-leb 224 (rank + 208) (omega arith), e))
@@ -64,15 +61,15 @@ unfolding coordinate_code
 coordinate_flat last c rest = append_assoc (small_code (bit_xor c.index last)) (level_byte c.rank ∷ []) rest
 
 pub coordinate_round : (last : ℕ) (c : Coordinate) (rest : List ℕ) → last < 2 ^ 47 → Ranged 16 c.rank c.index
-    → coordinate_read last (coordinate_code last c ++ rest) ≡ C.Read c (length (coordinate_code last c))
+    → coordinate_read last (coordinate_code last c ++ rest) ≡ Some (c, length (coordinate_code last c))
 unfolding coordinate_read coordinate_of
 coordinate_round last c rest h r =
     let x : ℕ = bit_xor c.index last in
     let bs : List ℕ = small_code x in
     let lb : ℕ = level_byte c.rank in
-    let number : read_small (bs ++ (lb ∷ rest)) ≡ S.Number x (length bs) =
+    let number : read_small (bs ++ (lb ∷ rest)) ≡ Ok (record { x = x; count = length bs }) =
     read_written x (lb ∷ rest) (xor_under c.index last r.bound h) in
-    let level : level_read (drop (length bs) (bs ++ (lb ∷ rest))) ≡ L.Rank c.rank =
+    let level : level_read (drop (length bs) (bs ++ (lb ∷ rest))) ≡ Some c.rank =
     rw (drop_at bs (lb ∷ rest) (length bs) refl) (level_first lb rest ∙ level_round c.rank r.low r.high) in
     rw (coordinate_flat last c rest, number, level, xor_cancel last c.index, coordinate_length last c)
 
@@ -133,20 +130,20 @@ module _ (p : Interval) (integer : Bool) (ok : Proper integer p) (rest : List �
       )
       (big_round 8 upper (bits_fit p.upper ok.format.1))
 
-  bounds_round : bounds_read integer s ≡ P.Read p 16
+  bounds_round : bounds_read integer s ≡ Some (p, 16)
   unfolding bounds_read
   bounds_round =
       rw (le-leb 16 (length s) long, first_word, second_word)
       (ap bounds_of (read_back p integer ok.format ok.legal ok.put))
 
-  pub other_round : (last : Interval) → used_read integer last s ≡ P.Read p (length (bounds_code p))
+  pub other_round : (last : Interval) → used_read integer last s ≡ Some (p, length (bounds_code p))
   unfolding used_read
   other_round last = rw (le-leb 2 (length s) (omega (arith, long)), no_mark_here, bounds_length p) bounds_round
 
 -- FF FF
 mark_round : (integer : Bool) (last p : Interval) (rest : List ℕ) → Proper integer p → InFormat last
     → same_interval p last ≡ true
-    → used_read integer last (255 ∷ 255 ∷ rest) ≡ P.Read p 2
+    → used_read integer last (255 ∷ 255 ∷ rest) ≡ Some (p, 2)
 unfolding used_read
 mark_round integer last p rest ok f e =
     let same : same_interval p (put_interval last) ≡ true =
@@ -163,13 +160,13 @@ pub record ParameterFine (used integer : Bool) (p : Interval) : Type 0 where
 pub parameter_round : (used integer : Bool) (last p : Interval) (rest : List ℕ) → ParameterFine used integer p
     → InFormat last
     → parameter_read used integer last (parameter_code used last p ++ rest)
-    ≡ P.Read p (length (parameter_code used last p))
+    ≡ Some (p, length (parameter_code used last p))
 unfolding parameter_read parameter_code
 parameter_round true integer last p rest ok f = go (same_interval p last) refl
   where
     go : (t : Bool) → same_interval p last ≡ t
         → used_read integer last (cond t (255 ∷ 255 ∷ []) (bounds_code p) ++ rest)
-        ≡ P.Read p (length (cond t (255 ∷ 255 ∷ []) (bounds_code p)))
+        ≡ Some (p, length (cond t (255 ∷ 255 ∷ []) (bounds_code p)))
     go true e = mark_round integer last p rest (ok.proper refl) f e
     go false e = other_round p integer (ok.proper refl) rest last
 parameter_round false integer last p rest ok f = rw (ok.line refl)
@@ -183,14 +180,14 @@ begun b = record { x = b.x; y = b.y; m = whole_line; n = whole_line; theta = who
 -- x and y
 place_round : (last : Last) (b : Block) (rest : List ℕ) → last.x < 2 ^ 47 → last.y < 2 ^ 47
     → Ranged 16 b.x.rank b.x.index → Ranged 16 b.y.rank b.y.index
-    → place_read last (place_code last b ++ rest) ≡ R.Read (begun b) (length (place_code last b))
+    → place_read last (place_code last b ++ rest) ≡ Some (begun b, length (place_code last b))
 unfolding place_read with_x place_code
 place_round last b rest h k p q =
     let xs : List ℕ = coordinate_code last.x b.x in
     let ys : List ℕ = coordinate_code last.y b.y in
-    let e : coordinate_read last.x (xs ++ (ys ++ rest)) ≡ C.Read b.x (length xs) =
+    let e : coordinate_read last.x (xs ++ (ys ++ rest)) ≡ Some (b.x, length xs) =
     coordinate_round last.x b.x (ys ++ rest) h p in
-    let f : coordinate_read last.y (drop (length xs) (xs ++ (ys ++ rest))) ≡ C.Read b.y (length ys) =
+    let f : coordinate_read last.y (drop (length xs) (xs ++ (ys ++ rest))) ≡ Some (b.y, length ys) =
     rw (drop_at xs (ys ++ rest) (length xs) refl) (coordinate_round last.y b.y rest k q) in
     rw (append_assoc xs ys rest, e, f, length-append xs ys)
 
@@ -205,16 +202,15 @@ module _ (set : ℕ) (last : Last) (b : Block)
     (known : (d : Direction) → InFormat (recalled last d)) where
   along_round : (s rest : List ℕ) (d : Direction) (c : Block) (n : ℕ)
       → drop n s ≡ parameter_code (in_use set d) (recalled last d) (parameter_of b d) ++ rest
-      → add_parameter set last s d (R.Read c n)
-      ≡ R.Read (with_parameter c d (parameter_of b d))
-      (n + length (parameter_code (in_use set d) (recalled last d) (parameter_of b d)))
+      → add_parameter set last s d (Some (c, n))
+      ≡ Some (with_parameter c d (parameter_of b d), n + length (parameter_code (in_use set d) (recalled last d) (parameter_of b d)))
   unfolding add_parameter
   along_round s rest d c n e =
       rw (e, parameter_round (in_use set d) (is_integer d) (recalled last d) (parameter_of b d) rest (fine d) (known d))
 
   parameters_round : (s rest : List ℕ) (ds : List Direction) (c : Block) (n : ℕ)
       → drop n s ≡ parameters_code set last b ds ++ rest
-      → add_parameters set last s ds (R.Read c n) ≡ R.Read (copied b ds c) (n + length (parameters_code set last b ds))
+      → add_parameters set last s ds (Some (c, n)) ≡ Some (copied b ds c, n + length (parameters_code set last b ds))
   unfolding add_parameters parameters_code
   parameters_round s rest [] c n e = rw (add-zero n)
   parameters_round s rest (d ∷ ds) c n e =
@@ -240,8 +236,7 @@ pub record Known (last : Last) : Type 0 where
   pub format : (d : Direction) → InFormat (recalled last d)
 
 direction_round : (s : List ℕ) (b : Block) (n dir : ℕ) (rest : List ℕ) → drop n s ≡ dir ∷ rest → n < length s
-    → add_direction s (R.Read b n) ≡ R.Read
-    (record { x = b.x; y = b.y; m = b.m; n = b.n; theta = b.theta; t = b.t; dir = dir }) (n + 1)
+    → add_direction s (Some (b, n)) ≡ Some (record { x = b.x; y = b.y; m = b.m; n = b.n; theta = b.theta; t = b.t; dir = dir }, n + 1)
 unfolding add_direction
 direction_round s b n dir rest e h =
     let g : get_or s n 0 ≡ dir =
@@ -258,19 +253,19 @@ encode_flat set last b rest =
 
 -- DECODE AFTER ENCODE, with any bytes behind
 pub decode_encode : (set : ℕ) (last : Last) (b : Block) (rest : List ℕ) → Known last → CanQueue set b
-    → decode set last (encode set last b ++ rest) ≡ R.Read b (length (encode set last b))
+    → decode set last (encode set last b ++ rest) ≡ Some (b, length (encode set last b))
 unfolding decode
 decode_encode set last b rest k c =
     let place : List ℕ = place_code last b in
     let ps : List ℕ = parameters_code set last b parameters in
     let s : List ℕ = place ++ (ps ++ (b.dir ∷ rest)) in
     let flat : encode set last b ++ rest ≡ s = encode_flat set last b rest in
-    let e : place_read last s ≡ R.Read (begun b) (length place) =
+    let e : place_read last s ≡ Some (begun b, length place) =
     place_round last b (ps ++ (b.dir ∷ rest)) k.x k.y c.x c.y in
     let after : drop (length place) s ≡ ps ++ (b.dir ∷ rest) =
     drop_at place (ps ++ (b.dir ∷ rest)) (length place) refl in
-    let f : add_parameters set last s parameters (R.Read (begun b) (length place))
-    ≡ R.Read (copied b parameters (begun b)) (length place + length ps) =
+    let f : add_parameters set last s parameters (Some (begun b, length place))
+    ≡ Some (copied b parameters (begun b), length place + length ps) =
     parameters_round set last b c.fine k.format s (b.dir ∷ rest) parameters (begun b) (length place) after in
     let end : drop (length place + length ps) s ≡ b.dir ∷ rest =
     sym (drop-drop (length ps) (length place) s) ∙ rw (after, drop_at ps (b.dir ∷ rest) (length ps) refl) in

@@ -1,19 +1,23 @@
 -- Laws of writing a code into a buffer: stores one after another, the bytes of a number in either order, and how long each
 -- part is. Assumes nothing.
-use mathlib.Core.Path.{◌≡◌, refl, sym, ap, ◌∙◌}
+use Rattle.std.specs.Int.{w64, to_be_bytes}
+use Rattle.std.proofs.Math.Nat.{div-div-eq-div-mul}
+use mathlib.Core.Path.{◌≡◌, refl, sym, ◌∙◌}
 use mathlib.Core.Bool.{Bool, true, false, not, cond, true≢false, false≢true}
-use mathlib.Core.List.{List, [], ◌∷◌, ◌++◌}
-use Prim.Native.Nat.{ℕ, suc, ◌+◌, ◌*◌, ◌/◌, ◌%◌, ◌^◌, ◌≤◌, ◌<◌}
+use mathlib.Core.List.{List, [], ◌∷◌, ◌++◌, append_assoc}
+use Prim.Native.Nat.{ℕ, suc, ◌+◌, ◌-◌, ◌*◌, ◌/◌, ◌%◌, ◌^◌, ◌≤◌, ◌<◌}
 use native.Mathlib.Omega.{arith}
-use native.Mathlib.Nat.{add-zero}
+use native.Mathlib.Nat.{add-zero, zero-add}
 use native.Mathlib.Numerals.{add-one}
 use lib.Bits.{bit_xor, xor_lt}
 use lib.Ieee.{binary64, to_bits}
 use lib.ListN.{length, take, drop, set, length-append}
-use lib.Seq.{sets, sets-eq, take_at, set_comm}
+use lib.Seq.{sets, sets-eq, take_at, take-suc-set, drop-drop}
+use borrow.Rule.Slice.PartMut.{put_mid}
 use Rattle.base.specs.Bytes.{little_endian, big_endian}
 use Rattle.base.proofs.BytesLaws.{length_big}
-use Rattle.small.specs.declared.CodeAnswer.TheVariants as K
+use Rattle.std.specs.Prelude.{Ok}
+use Rattle.small.specs.declared.Code.{Code}
 use Rattle.small.specs.Small.{code_of, small_code}
 use Rattle.small.proofs.Writing.{code_stored, length_few}
 use Rattle.coordinate.specs.declared.Coordinate.{Coordinate}
@@ -35,30 +39,30 @@ sets_append [] ws l at = rw add-zero
 sets_append (v ∷ vs) ws l at =
     let e : at + suc (length vs) ≡ suc at + length vs = omega arith in rw e (sets_append vs ws (set l at v) (suc at))
 
--- the last of some bytes stored first
-pub sets_last : (vs l : List ℕ) (at b : ℕ) → sets (set l (at + length vs) b) at vs ≡ sets l at (vs ++ (b ∷ []))
-sets_last [] l at b = rw add-zero
-sets_last (v ∷ vs) l at b =
-    let e : at + suc (length vs) ≡ suc at + length vs = omega arith in
-    ap (λ (k : List ℕ). sets k (suc at) vs) (set_comm l (at + suc (length vs)) at b v (λ q. omega arith))
-    ∙ rw e (sets_last vs (set l at v) (suc at) b)
-
 -- the front of a buffer that bytes were stored at
 pub take_sets : (vs l : List ℕ) → length vs ≤ length l → take (length vs) (sets l 0 vs) ≡ vs
 take_sets vs l h = rw (sets-eq vs l 0 (omega arith)) (take_at vs (drop (0 + length vs) l) (length vs) refl)
 
--- one byte stored of those that are left, lowest first and highest last
-pub little_step : (l : List ℕ) (p k v : ℕ)
-    → sets (set l p (v % 256)) (p + 1) (little_endian k (v / 256)) ≡ sets l p (little_endian (suc k) v)
-unfolding little_endian
-little_step l p k v = rw (add-one p)
+-- a part of a buffer that other bytes took the place of, anywhere and at the front
+pub part_put : (l vs zs : List ℕ) (at k : ℕ) → zs ≡ vs → k ≡ length vs → at + length vs ≤ length l → put_mid at k l zs ≡ sets l at vs
+part_put l vs zs at k e f h =
+    rw (e, f, drop-drop (length vs) at l) (sym (sets-eq vs l at h ∙ append_assoc (take at l) vs _))
 
-pub big_step : (l : List ℕ) (at k v : ℕ)
-    → sets (set l (at + k) (v % 256)) at (big_endian k (v / 256)) ≡ sets l at (big_endian (suc k) v)
+pub front_put : (l vs zs : List ℕ) (k : ℕ) → zs ≡ vs → k ≡ length vs → length vs ≤ length l → zs ++ drop k l ≡ sets l 0 vs
+front_put l vs zs k e f h = rw (e, f) (sym (rw zero-add at (sets-eq vs l 0 (omega arith))))
+
+-- one byte more of a number, lowest first, in the place of another
+pub little_step : (l : List ℕ) (i v : ℕ) → i < length l
+    → take (i + 1) (set l i (v % 256)) ++ little_endian (length l - (i + 1)) (v / 256) ≡ take i l ++ little_endian (length l - i) v
+unfolding little_endian
+little_step l i v h =
+    let e : length l - i ≡ suc (length l - (i + 1)) = omega arith in
+    rw (e, add-one i, take-suc-set l i (v % 256) h) (append_assoc (take i l) (v % 256 ∷ []) _)
+
+-- the eight bytes of a number, as the library writes them
+pub word_bytes : (v : ℕ) → to_be_bytes w64 v ≡ big_endian 8 v
 unfolding big_endian
-big_step l at k v =
-    let e : at + k ≡ at + length (big_endian k (v / 256)) = ap (λ (n : ℕ). at + n) (sym (length_big k (v / 256))) in
-    rw e (sets_last (big_endian k (v / 256)) l at (v % 256))
+word_bytes v = simp div-div-eq-div-mul
 
 -- ---- lengths
 
@@ -132,11 +136,11 @@ unfolding parameter_code
 other_put out out₁ at r true last p e f w = rw f w
 other_put out out₁ at r false last p e f w = absurd (true≢false e)
 
-pub number_put : (out out₁ : List ℕ) (at x head tail count : ℕ) → code_of x ≡ K.Code head tail count
-    → out₁ ≡ sets (set out at head) (at + 1) (little_endian count tail)
-    → Written out at (small_code x) (at + 1 + count) out₁
-number_put out out₁ at x head tail count e f =
-    let s = code_stored x head tail count e in
+pub number_put : (out out₁ : List ℕ) (at x : ℕ) (c : Code) → code_of x ≡ Ok c
+    → out₁ ≡ sets (set out at c.head) (at + 1) (little_endian c.count c.tail)
+    → Written out at (small_code x) (at + 1 + c.count) out₁
+number_put out out₁ at x c e f =
+    let s = code_stored x c e in
     (omega (arith, s.long), f ∙ rw (s.bytes, add-one at))
 
 pub coordinate_put : (out out₁ : List ℕ) (at end last : ℕ) (c : Coordinate) (byte : ℕ)

@@ -1,10 +1,8 @@
 -- The directions in use, document 01, "Picture and step": xy where either is used, then the used parameters in order.
 -- A variable set is a number in which x is 32, y 16, m 8, n 4, n_theta 2 and t 1; higher digits say nothing.
-use Rattle.std.specs.Prelude.{Bool, cond, ◌||◌, List, [], ◌∷◌, ℕ, zero, suc, ◌/◌, ◌%◌, eqb}
+use Rattle.std.specs.Prelude.{Bool, cond, ◌||◌, List, [], ◌∷◌, ℕ, zero, suc, ◌/◌, ◌%◌, eqb, Option, Some, None}
 use Rattle.queue.specs.declared.directions.Direction.{Direction}
 use Rattle.queue.specs.declared.directions.Direction.TheVariants as D
-use Rattle.queue.specs.declared.directions.DirectionAt.{DirectionAt}
-use Rattle.queue.specs.declared.directions.DirectionAt.TheVariants as A
 
 -- the set uses the direction's variable
 abbrev pub in_use : ℕ → Direction → Bool
@@ -28,7 +26,7 @@ unfoldable pub directions : ℕ → List Direction
 directions set = used_of set (D.XY ∷ parameters)
 
 -- the direction at a place, which a block's direction byte names
-unfoldable pub direction_at : List Direction → ℕ → DirectionAt
-direction_at [] at = A.Beyond
-direction_at (d ∷ ds) zero = A.Along d
+unfoldable pub direction_at : List Direction → ℕ → Option Direction
+direction_at [] at = None
+direction_at (d ∷ ds) zero = Some d
 direction_at (d ∷ ds) (suc at) = direction_at ds at

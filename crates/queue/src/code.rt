@@ -1,7 +1,7 @@
-// Writing a block's code: its bytes into a buffer that has room for the longest, 83 of them.
+// Writing a block's code: its bytes into a buffer that has room for the longest, 83 of them. Each writer takes the place and answers
+// where it ends: a struct of the buffer and the place would have to be taken apart at each of their contracts.
 ghost use Rattle.std.specs.Prelude.{◌≡◌, ◌∷◌, [], ◌+◌, ◌^◌, ◌≤◌, ◌<◌, true, length};
-ghost use Rattle.std.proofs.lemmas.List.Edits.{sets};
-ghost use Rattle.base.specs.Bytes.{little_endian, big_endian};
+ghost use Rattle.base.specs.Bytes.{little_endian};
 ghost use Rattle.small.specs.Small.{small_code};
 ghost use Rattle.queue.specs.Directions.{in_use, parameters};
 ghost use Rattle.queue.specs.Block.{parameter_of, recalled};
@@ -14,30 +14,14 @@ use super::kept::{parameter_of, recall};
 use super::{Block, Last};
 use coordinate::PIXEL_RANK;
 use interval::Interval;
-use small::CodeAnswer;
 
 // The low bytes of a number, lowest first.
-fn put_little(out: &mut [u8], at: usize, v: u64, count: usize)
-    requires { at + count ≤ length out.old }
-    ensures { out.new ≡ sets out.old at (little_endian count v) }
+fn put_little(out: &mut [u8], v: u64)
+    ensures { out.new ≡ little_endian (length out.old) v }
 {
     let mut left = v;
-    for i in 0..count {
-        out[at + i] = (left % 256) as u8;
-        left /= 256;
-    }
-}
-
-// The eight bytes of a number, highest first: written from the last on.
-fn put_word(out: &mut [u8], at: usize, v: u64)
-    requires { at + 8 ≤ length out.old }
-    ensures { out.new ≡ sets out.old at (big_endian 8 v) }
-{
-    let mut left = v;
-    let mut i = 8;
-    while 0 < i {
-        i -= 1;
-        out[at + i] = (left % 256) as u8;
+    for byte in out.iter_mut() {
+        *byte = (left % 256) as u8;
         left /= 256;
     }
 }
@@ -48,25 +32,22 @@ fn put_number(out: &mut [u8], at: usize, x: u64) -> usize
     ensures { Written out.old at (small_code x) result out.new }
 {
     match small::write_small(x) {
-        CodeAnswer::Code { head, tail, count } => {
-            out[at] = head;
-            put_little(out, at + 1, tail, count);
-            at + 1 + count
+        Ok(code) => {
+            out[at] = code.head;
+            let end = at + 1 + code.count;
+            put_little(&mut out[at + 1..end], code.tail);
+            end
         }
-        CodeAnswer::Refused(_) => at,
+        Err(_) => at,
     }
 }
 
-// The byte of a level.
+// The byte of a level, two's complement.
 fn level_byte(rank: u8) -> u8
     requires { rank < 64 }
     ensures { result ≡ level_byte rank }
 {
-    if rank < PIXEL_RANK {
-        rank + 208
-    } else {
-        rank - PIXEL_RANK
-    }
+    rank.wrapping_sub(PIXEL_RANK)
 }
 
 // A coordinate against the remembered index.
@@ -94,9 +75,10 @@ fn put_bounds(out: &mut [u8], at: usize, p: Interval) -> usize
     requires { at + 16 ≤ length out.old }
     ensures { Written out.old at (bounds_code p) result out.new }
 {
-    put_word(out, at, interval::bits_of(p.lower));
-    put_word(out, at + 8, interval::bits_of(p.upper));
-    at + 16
+    let end = at + 16;
+    out[at..at + 8].copy_from_slice(&interval::bits_of(p.lower).to_be_bytes());
+    out[at + 8..end].copy_from_slice(&interval::bits_of(p.upper).to_be_bytes());
+    end
 }
 
 // A parameter against the remembered one.
@@ -143,10 +125,8 @@ fn put_place(out: &mut [u8], set: u8, last: Last, b: Block) -> usize
     requires { (18 ≤ length out.old) × (can_queue set b ≡ true) × (indices_known last ≡ true) }
     ensures { Written out.old 0 (place_code last b) result out.new }
 {
-    let x = b.x;
-    let y = b.y;
-    let end = put_coordinate(out, 0, last.x, x.index, x.rank);
-    put_coordinate(out, end, last.y, y.index, y.rank)
+    let end = put_coordinate(out, 0, last.x, b.x.index, b.x.rank);
+    put_coordinate(out, end, last.y, b.y.index, b.y.rank)
 }
 
 // A block's code at the front of a buffer. Answers its length.

@@ -12,13 +12,7 @@ use interval::{Interval, whole_line};
 pub fn is_integer(d: Direction) -> bool
     ensures { result ≡ is_integer d }
 {
-    match d {
-        Direction::XY => false,
-        Direction::M => true,
-        Direction::N => true,
-        Direction::Theta => true,
-        Direction::T => false,
-    }
+    matches!(d, Direction::M | Direction::N | Direction::Theta)
 }
 
 // A block's parameter; the whole line where the direction is none.
@@ -38,25 +32,12 @@ pub fn parameter_of(b: Block, d: Direction) -> Interval
 pub fn with_parameter(b: Block, d: Direction, p: Interval) -> Block
     ensures { result ≡ with_parameter b d p }
 {
-    let mut c = b;
     match d {
-        Direction::XY => c,
-        Direction::M => {
-            c.m = p;
-            c
-        }
-        Direction::N => {
-            c.n = p;
-            c
-        }
-        Direction::Theta => {
-            c.theta = p;
-            c
-        }
-        Direction::T => {
-            c.t = p;
-            c
-        }
+        Direction::XY => b,
+        Direction::M => Block { m: p, ..b },
+        Direction::N => Block { n: p, ..b },
+        Direction::Theta => Block { theta: p, ..b },
+        Direction::T => Block { t: p, ..b },
     }
 }
 
@@ -74,23 +55,16 @@ pub(crate) fn recall(last: Last, d: Direction) -> Interval
 }
 
 // The block as the queue keeps it: used parameters with their zeros put, unused ones the whole line.
+#[tactic(auto, unfolding(crate::specs::Block::as_queued))]
 pub fn as_queued(set: u8, b: Block) -> Block
     ensures { result ≡ as_queued set b }
 {
-    let m = as_queued_one(set, Direction::M, b.m);
-    let n = as_queued_one(set, Direction::N, b.n);
-    let theta = as_queued_one(set, Direction::Theta, b.theta);
-    let t = as_queued_one(set, Direction::T, b.t);
-    let x = b.x;
-    let y = b.y;
     Block {
-        x,
-        y,
-        m,
-        n,
-        theta,
-        t,
-        dir: b.dir,
+        m: as_queued_one(set, Direction::M, b.m),
+        n: as_queued_one(set, Direction::N, b.n),
+        theta: as_queued_one(set, Direction::Theta, b.theta),
+        t: as_queued_one(set, Direction::T, b.t),
+        ..b
     }
 }
 
@@ -106,43 +80,34 @@ fn as_queued_one(set: u8, d: Direction, p: Interval) -> Interval
 }
 
 // What is remembered once a block was queued, or taken.
+#[tactic(auto, unfolding(crate::specs::Block::remembered))]
 pub fn remember(b: Block) -> Last
     ensures { result ≡ remembered b }
 {
-    let x = b.x;
-    let y = b.y;
-    let m = b.m;
-    let n = b.n;
-    let theta = b.theta;
-    let t = b.t;
     Last {
-        x: x.index,
-        y: y.index,
-        m,
-        n,
-        theta,
-        t,
+        x: b.x.index,
+        y: b.y.index,
+        m: b.m,
+        n: b.n,
+        theta: b.theta,
+        t: b.t,
     }
 }
 
 // The same in a set without parameters: only the place is looked at.
+#[tactic(auto, unfolding(crate::specs::Block::remembered, crate::specs::Block::as_queued, crate::specs::Block::starting_last))]
 pub(crate) fn remember_place(b: Block) -> Last
     ensures { result ≡ remembered (as_queued 0 b) }
 {
-    let x = b.x;
-    let y = b.y;
-    let line = whole_line();
     Last {
-        x: x.index,
-        y: y.index,
-        m: line,
-        n: line,
-        theta: line,
-        t: line,
+        x: b.x.index,
+        y: b.y.index,
+        ..starting_last()
     }
 }
 
 // What is remembered before the first block.
+#[tactic(auto, unfolding(crate::specs::Block::starting_last))]
 pub fn starting_last() -> Last
     ensures { result ≡ starting_last }
 {

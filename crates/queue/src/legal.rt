@@ -12,10 +12,7 @@ use interval::Interval;
 fn is_legal_if_used(set: u8, d: Direction, p: Interval) -> bool
     ensures { result ≡ legal_if_used set d p }
 {
-    if !is_used(set, d) {
-        return true;
-    }
-    interval::is_legal(p, is_integer(d))
+    !is_used(set, d) || interval::is_legal(p, is_integer(d))
 }
 
 // Whether all four are: of a block, or of a setup's ranges.

@@ -10,15 +10,14 @@ use super::directions::{Direction, is_used};
 use super::kept::{parameter_of, recall};
 use super::{Block, Last};
 use coordinate::Coordinate;
-use small::CodeAnswer;
 
 // The bytes of a small number.
 fn number_length(x: u64) -> usize
     ensures { result ≡ length (small_code x) }
 {
     match small::write_small(x) {
-        CodeAnswer::Code { head, tail, count } => count + 1,
-        CodeAnswer::Refused(_) => 0,
+        Ok(code) => code.count + 1,
+        Err(_) => 0,
     }
 }
 

@@ -1,15 +1,17 @@
 // The block queue over a lent ring of bytes. Document 01, "The queue's bytes"; from the Rust's block.rs (`Block`, `BlockQueue`).
 // Here stand the types and what other crates call: each function takes every number and every ring, and what cannot be done
-// is a case of its answer that changes nothing.
+// is an error that changes nothing.
 #![tactic(auto)]
 
 ghost use Rattle.std.specs.Prelude.{◌≡◌, length};
+ghost use Rattle.queue.specs.Answers.{refusal_of};
 ghost use Rattle.queue.specs.Queue.{taken, taken_by, copied, copied_ring};
 
 use coordinate::Coordinate;
 use interval::Interval;
-use read::{BlockRead, read_block};
-use ring::{fits_ring, move_on, newer_stretch, older_stretch, store_stretches};
+use read::read_block;
+use refusal::Refusal;
+use ring::{fits_ring, move_on, store_stretches};
 
 mod appending;
 mod code;
@@ -22,14 +24,12 @@ mod read;
 mod ring;
 
 pub use appending::append;
-pub use directions::{
-    Direction, DirectionAt, direction_at, direction_count, is_used, parameter_count,
-};
+pub use directions::{Direction, direction_at, direction_count, is_used, parameter_count};
 pub use interval::whole_line;
 pub use kept::{as_queued, is_integer, parameter_of, remember, starting_last, with_parameter};
 pub use legal::are_parameters_legal;
 pub use measuring::measure;
-pub use ring::part;
+pub use ring::Stretches;
 
 // The longest code of a block: two coordinates of 8 bytes and a level byte each, four parameters of 16, and the direction.
 pub const LONGEST_CODE: usize = 83;
@@ -63,88 +63,83 @@ pub struct Last {
     pub t: Interval,
 }
 
-// The front block as it is read, and the head and the use once it is taken.
-#[derive(Clone, Copy)]
-pub enum Peeked {
-    Front {
-        block: Block,
-        head: usize,
-        used: usize,
-    },
+// Why the queue does not do what it is asked.
+#[derive(Clone, Copy, Debug, PartialEq, Eq)]
+pub enum QueueError {
     // The bytes used are no block's code.
     Damaged,
     // The head or the use does not fit the ring.
     Outside,
+    // The new bytes do not fit: a code behind the bytes used, or those in the other ring.
+    NoRoom,
+    // The block cannot be queued, or a remembered index is none that a block has.
+    NotCodable,
+}
+
+// The refusal that document 01 has for it.
+impl From<QueueError> for Refusal {
+    ghost from_gives = { λ why r. r ≡ refusal_of why };
+
+    fn from(why: QueueError) -> Refusal {
+        match why {
+            QueueError::NoRoom => Refusal::Room,
+            _ => Refusal::Damaged,
+        }
+    }
+}
+
+// The front block as it is read, and the head and the use once it is taken.
+#[derive(Clone, Copy)]
+pub struct Peeked {
+    pub block: Block,
+    pub head: usize,
+    pub used: usize,
 }
 
 // The front block taken: what is remembered of it, and the head and the use afterwards.
 #[derive(Clone, Copy)]
-pub enum Taken {
-    Front {
-        block: Block,
-        last: Last,
-        head: usize,
-        used: usize,
-    },
-    // The bytes used are no block's code.
-    Damaged,
-    // The head or the use does not fit the ring.
-    Outside,
+pub struct Taken {
+    pub block: Block,
+    pub last: Last,
+    pub head: usize,
+    pub used: usize,
 }
 
 // A block appended: what is remembered of it, and the use afterwards.
 #[derive(Clone, Copy)]
-pub enum Appended {
-    Done { last: Last, used: usize },
-    // Its code does not fit behind the bytes used.
-    NoRoom,
-    // The block cannot be queued, or a remembered index is none that a block has.
-    NotCodable,
-    // The head or the use does not fit the ring.
-    Outside,
+pub struct Appended {
+    pub last: Last,
+    pub used: usize,
 }
 
 // How many bytes a block's code takes, and what is remembered once it is queued.
 #[derive(Clone, Copy)]
-pub enum Measured {
-    Bytes { count: usize, last: Last },
-    // The block cannot be queued, or a remembered index is none that a block has.
-    NotCodable,
-}
-
-// The queue's bytes copied to another ring.
-#[derive(Clone, Copy)]
-pub enum Copied {
-    Done,
-    // They do not fit the other ring, or it has no byte.
-    NoRoom,
-    // The head or the use does not fit the ring.
-    Outside,
+pub struct Measured {
+    pub count: usize,
+    pub last: Last,
 }
 
 // Reads the front block: its bytes are free once the head and the use that it answers are kept. No byte changes.
-pub fn peek(ring: &[u8], head: usize, used: usize, set: u8, front: Last) -> Peeked
+// The ring, its head and its use come apart here and below: the engine's record, a C record, has head and use as its own fields.
+pub fn peek(
+    ring: &[u8],
+    head: usize,
+    used: usize,
+    set: u8,
+    front: Last,
+) -> Result<Peeked, QueueError>
     ensures { taken_by result ≡ taken ring.now head used set front }
 {
     if !fits_ring(ring.len(), head, used) {
-        return Peeked::Outside;
+        return Err(QueueError::Outside);
     }
-    match read_block(
-        older_stretch(ring, head, used),
-        newer_stretch(ring, head, used),
-        set,
-        front,
-    ) {
-        BlockRead::Damaged => Peeked::Damaged,
-        BlockRead::Read { block, count } => {
-            let b = by_fields(block);
-            let next = move_on(ring.len(), head, count);
-            Peeked::Front {
-                block: b,
-                head: next,
-                used: used - count,
-            }
-        }
+    match read_block(Stretches::of(ring, head, used), set, front) {
+        None => Err(QueueError::Damaged),
+        Some((block, count)) => Ok(Peeked {
+            block: by_fields(block),
+            head: move_on(ring.len(), head, count),
+            used: used - count,
+        }),
     }
 }
 
@@ -176,43 +171,35 @@ fn by_fields(b: Block) -> Block
 }
 
 // Takes the front block, with what is remembered of it.
-pub fn take(ring: &[u8], head: usize, used: usize, set: u8, front: Last) -> Taken
+pub fn take(
+    ring: &[u8],
+    head: usize,
+    used: usize,
+    set: u8,
+    front: Last,
+) -> Result<Taken, QueueError>
     ensures { result ≡ taken ring.now head used set front }
 {
-    match peek(ring, head, used, set, front) {
-        Peeked::Front {
-            block,
-            head: next,
-            used: rest,
-        } => {
-            let last = remember(block);
-            Taken::Front {
-                block,
-                last,
-                head: next,
-                used: rest,
-            }
-        }
-        Peeked::Damaged => Taken::Damaged,
-        Peeked::Outside => Taken::Outside,
-    }
+    let read = peek(ring, head, used, set, front)?;
+    Ok(Taken {
+        block: read.block,
+        last: remember(read.block),
+        head: read.head,
+        used: read.used,
+    })
 }
 
 // Copies the bytes used to another ring, longer or shorter, from its byte 0 on; the bytes behind them stay.
-pub fn copy(ring: &[u8], head: usize, used: usize, other: &mut [u8]) -> Copied
+pub fn copy(ring: &[u8], head: usize, used: usize, other: &mut [u8]) -> Result<(), QueueError>
     ensures value { result ≡ copied (length ring.now) head used (length other.old) }
     ensures other_after { other.new ≡ copied_ring ring.now head used other.old }
 {
     if !fits_ring(ring.len(), head, used) {
-        return Copied::Outside;
+        return Err(QueueError::Outside);
     }
     if !fits_ring(other.len(), 0, used) {
-        return Copied::NoRoom;
+        return Err(QueueError::NoRoom);
     }
-    store_stretches(
-        other,
-        older_stretch(ring, head, used),
-        newer_stretch(ring, head, used),
-    );
-    Copied::Done
+    store_stretches(other, Stretches::of(ring, head, used));
+    Ok(())
 }

@@ -1,273 +1,162 @@
 // Reading a block back out of the ring's two stretches, byte by byte where a code lies across them.
-// Nothing past the stretches is looked at; what is no code is Damaged.
-ghost use Rattle.std.specs.Prelude.{◌≡◌, ◌++◌, ◌+◌, ◌≤◌, min, length, take, drop};
-ghost use Rattle.std.proofs.lemmas.List.Edits.{sets};
+// Nothing past the stretches is looked at; what is no code is None. What is read comes with how many bytes it took.
+ghost use Rattle.std.specs.Prelude.{◌≡◌, ℕ, ◌+◌, ◌≤◌, ◌<◌, length, take, drop, get_or};
 ghost use Rattle.base.specs.Bytes.{of_big_endian};
 ghost use Rattle.small.specs.Small.{read_small};
-ghost use Rattle.queue.specs.Decode.{level_of, level_read, coordinate_read, bounds_read, used_read, parameter_read};
-ghost use Rattle.queue.specs.Decode.{with_place, with_y, rest_read, decode};
-ghost use Rattle.queue.specs.DecodeComputed.{parameter_behind, EndsInside, interval_read, direction_read, end_read};
+ghost use Rattle.queue.specs.Decode.{level_of, level_read, coordinate_read, bounds_read, used_read};
+ghost use Rattle.queue.specs.Decode.{with_place, rest_read, decode};
+ghost use Rattle.queue.specs.DecodeComputed.{parameter_along};
+ghost use Rattle.queue.specs.RingComputed.{bytes};
 
 use super::directions::{Direction, is_used};
-use super::kept::is_integer;
-use super::ring::{byte_at, part};
+use super::kept::{is_integer, recall};
+use super::ring::Stretches;
 use super::{Block, Last};
 use coordinate::{Coordinate, PIXEL_RANK};
-use interval::{BitsAnswer, Interval, whole_line};
-use small::ReadAnswer;
+use interval::{Interval, whole_line};
+use refusal::Refusal;
+use small::Number;
 
-// A level's rank.
-#[derive(Clone, Copy)]
-enum LevelRead {
-    Rank(u8),
-    Damaged,
-}
-
-// A coordinate, and how many bytes it took.
-#[derive(Clone, Copy)]
-enum CoordinateRead {
-    Read {
-        coordinate: Coordinate,
-        count: usize,
-    },
-    Damaged,
-}
-
-// A parameter, and how many bytes it took.
-#[derive(Clone, Copy)]
-pub enum ParameterRead {
-    Read { interval: Interval, count: usize },
-    Damaged,
-}
-
-// A block, and how many bytes it took.
-#[derive(Clone, Copy)]
-pub enum BlockRead {
-    Read { block: Block, count: usize },
-    Damaged,
-}
-
-// Copies bytes of the two stretches from an offset on.
-fn gather<'a>(out: &mut [u8], older: &'a [u8], newer: &'a [u8], at: usize, count: usize)
-    requires { (at + count ≤ length older.now + length newer.now) × (count ≤ length out.old) }
-    ensures { out.new ≡ sets out.old 0 (take count (drop at (older.now ++ newer.now))) }
+// Copies bytes of the two stretches from an offset on, as many as there is room for.
+fn gather(out: &mut [u8], held: Stretches<'_>, at: usize)
+    requires { at + length out.old ≤ length (bytes held) }
+    ensures copied { out.new ≡ take (length out.old) (drop at (bytes held.entry)) }
+    ensures are_bytes { (k : ℕ) → k < length out.old → get_or out.new k 0 < 256 }
 {
-    for i in 0..count {
-        out[i] = byte_at(older, newer, at + i);
+    for (i, byte) in out.iter_mut().enumerate() {
+        *byte = held.byte_at(at + i);
     }
 }
 
-// As many bytes as a small number can take, of those that are left.
-fn at_most_eight(left: usize) -> usize
-    ensures { result ≡ min left 8 }
-{
-    if left < 8 { left } else { 8 }
-}
-
 // A small number whose bytes may lie in both stretches.
-fn read_across<'a>(older: &'a [u8], newer: &'a [u8], at: usize) -> ReadAnswer
-    requires { at ≤ length older.now + length newer.now }
-    ensures { result ≡ read_small (take 8 (drop at (older.now ++ newer.now))) }
+fn read_across(held: Stretches<'_>, at: usize) -> Result<Number, Refusal>
+    requires { at ≤ length (bytes held) }
+    ensures value { result ≡ read_small (take 8 (drop at (bytes held.entry))) }
+    ensures is_byte { get_or (bytes held.entry) at 0 < 256 }
 {
-    let left = older.len() + newer.len() - at;
-    let count = at_most_eight(left);
-    let mut bytes = [0u8; 8];
-    gather(&mut bytes, older, newer, at, count);
-    small::read_small(&bytes[0..count])
+    let mut code = [0u8; 8];
+    let count = (held.len() - at).min(code.len());
+    gather(&mut code[..count], held, at);
+    small::read_small(&code[..count])
 }
 
 // A small number, from one stretch where it lies in one.
-fn read_number<'a>(older: &'a [u8], newer: &'a [u8], at: usize) -> ReadAnswer
-    requires { at ≤ length older.now + length newer.now }
-    ensures { result ≡ read_small (drop at (older.now ++ newer.now)) }
+fn read_number(held: Stretches<'_>, at: usize) -> Result<Number, Refusal>
+    requires { at ≤ length (bytes held) }
+    ensures { result ≡ read_small (drop at (bytes held.entry)) }
 {
-    let near = small::read_small(part(older, newer, at));
-    match near {
-        ReadAnswer::Number { x, count } => ReadAnswer::Number { x, count },
-        ReadAnswer::Refused(_) => read_across(older, newer, at),
+    match small::read_small(held.part(at)) {
+        Ok(number) => Ok(number),
+        Err(_) => read_across(held, at),
     }
 }
 
 // The rank that a level's byte stands for.
-fn level_of(byte: u8) -> LevelRead
+fn level_of(byte: u8) -> Option<u8>
     ensures { result ≡ level_of byte }
 {
     match byte {
-        0..=15 => LevelRead::Rank(byte + PIXEL_RANK),
-        224..=255 => LevelRead::Rank(byte - 208),
-        _ => LevelRead::Damaged,
+        0..=15 => Some(byte + PIXEL_RANK),
+        224..=255 => Some(byte - 208),
+        _ => None,
     }
 }
 
 // The level behind a small number.
-fn read_level<'a>(older: &'a [u8], newer: &'a [u8], at: usize) -> LevelRead
-    ensures { result ≡ level_read (drop at (older.now ++ newer.now)) }
+fn read_level(held: Stretches<'_>, at: usize) -> Option<u8>
+    ensures { result ≡ level_read (drop at (bytes held.entry)) }
 {
-    let bytes = part(older, newer, at);
-    if bytes.len() == 0 {
-        return LevelRead::Damaged;
-    }
-    level_of(bytes[0])
+    level_of(held.get(at)?)
 }
 
 // A coordinate against the remembered index.
-fn read_coordinate<'a>(older: &'a [u8], newer: &'a [u8], at: usize, last: u64) -> CoordinateRead
-    requires { at ≤ length older.now + length newer.now }
-    ensures { result ≡ coordinate_read last (drop at (older.now ++ newer.now)) }
+fn read_coordinate(held: Stretches<'_>, at: usize, last: u64) -> Option<(Coordinate, usize)>
+    requires { at ≤ length (bytes held) }
+    ensures { result ≡ coordinate_read last (drop at (bytes held.entry)) }
 {
-    match read_number(older, newer, at) {
-        ReadAnswer::Refused(_) => CoordinateRead::Damaged,
-        ReadAnswer::Number { x, count } => match read_level(older, newer, at + count) {
-            LevelRead::Damaged => CoordinateRead::Damaged,
-            LevelRead::Rank(rank) => {
-                let coordinate = Coordinate {
-                    index: last ^ x,
-                    rank,
-                };
-                CoordinateRead::Read {
-                    coordinate,
-                    count: count + 1,
-                }
-            }
-        },
-    }
-}
-
-// A byte as a wider number.
-fn wide(x: u8) -> u64
-    ensures { result ≡ x }
-{
-    x as u64
+    let number = read_number(held, at).ok()?;
+    let rank = read_level(held, at + number.count)?;
+    let index = last ^ number.x;
+    Some((Coordinate { index, rank }, number.count + 1))
 }
 
 // The number in eight bytes, highest first.
-fn read_word<'a>(older: &'a [u8], newer: &'a [u8], at: usize) -> u64
-    requires { at + 8 ≤ length older.now + length newer.now }
-    ensures { result ≡ of_big_endian (take 8 (drop at (older.now ++ newer.now))) }
+fn read_word(held: Stretches<'_>, at: usize) -> u64
+    requires { at + 8 ≤ length (bytes held) }
+    ensures { result ≡ of_big_endian (take 8 (drop at (bytes held.entry))) }
 {
-    let mut v: u64 = 0;
-    for i in 0..8 {
-        v = v * 256 + wide(byte_at(older, newer, at + i));
-    }
-    v
+    let mut word = [0u8; 8];
+    gather(&mut word, held, at);
+    u64::from_be_bytes(word)
 }
 
 // The bounds of a parameter.
-fn read_bounds<'a>(older: &'a [u8], newer: &'a [u8], at: usize, integer: bool) -> ParameterRead
-    requires { at ≤ length older.now + length newer.now }
-    ensures { result ≡ bounds_read integer (drop at (older.now ++ newer.now)) }
+fn read_bounds(held: Stretches<'_>, at: usize, integer: bool) -> Option<(Interval, usize)>
+    requires { at ≤ length (bytes held) }
+    ensures { result ≡ bounds_read integer (drop at (bytes held.entry)) }
 {
-    if older.len() + newer.len() - at < 16 {
-        return ParameterRead::Damaged;
+    if held.len() - at < 16 {
+        return None;
     }
-    let lower = read_word(older, newer, at);
-    let upper = read_word(older, newer, at + 8);
-    match interval::interval_from_bits(lower, upper, integer) {
-        BitsAnswer::Bounds(interval) => ParameterRead::Read {
-            interval,
-            count: 16,
-        },
-        BitsAnswer::Refused(_) => ParameterRead::Damaged,
-    }
+    let lower = read_word(held, at);
+    let upper = read_word(held, at + 8);
+    let interval = interval::interval_from_bits(lower, upper, integer).ok()?;
+    Some((interval, 16))
 }
 
 // A used parameter against the remembered one.
-fn read_used<'a>(
-    older: &'a [u8],
-    newer: &'a [u8],
+fn read_used(
+    held: Stretches<'_>,
     at: usize,
     integer: bool,
     last: Interval,
-) -> ParameterRead
-    requires { at ≤ length older.now + length newer.now }
-    ensures { result ≡ used_read integer last (drop at (older.now ++ newer.now)) }
+) -> Option<(Interval, usize)>
+    requires { at ≤ length (bytes held) }
+    ensures { result ≡ used_read integer last (drop at (bytes held.entry)) }
 {
-    if older.len() + newer.len() - at < 2 {
-        return ParameterRead::Damaged;
-    }
-    let first = byte_at(older, newer, at);
-    let second = byte_at(older, newer, at + 1);
+    let first = held.get(at)?;
+    let second = held.get(at + 1)?;
     if (first == 255) & (second == 255) {
-        let interval = interval::put(last);
-        return ParameterRead::Read { interval, count: 2 };
+        return Some((interval::put(last), 2));
     }
-    read_bounds(older, newer, at, integer)
+    read_bounds(held, at, integer)
 }
 
-// A parameter, used or not.
-fn read_parameter<'a>(
-    older: &'a [u8],
-    newer: &'a [u8],
+// The parameter along a direction, used or not, and where it ends.
+fn read_along(
+    held: Stretches<'_>,
     at: usize,
-    used: bool,
-    integer: bool,
-    last: Interval,
-) -> ParameterRead
-    requires { at ≤ length older.now + length newer.now }
-    ensures { result ≡ parameter_read used integer last (drop at (older.now ++ newer.now)) }
-{
-    if used {
-        return read_used(older, newer, at, integer, last);
-    }
-    let interval = whole_line();
-    ParameterRead::Read { interval, count: 0 }
-}
-
-// The parameter along a direction, behind another: where it ends stands in place of its count.
-fn read_behind<'a>(
-    older: &'a [u8],
-    newer: &'a [u8],
     set: u8,
+    last: Last,
     d: Direction,
-    last: Interval,
-    before: ParameterRead,
-) -> ParameterRead
-    requires { EndsInside (older.now ++ newer.now) before }
-    ensures { result ≡ parameter_behind set d last (older.now ++ newer.now) before }
+) -> Option<(Interval, usize)>
+    requires { at ≤ length (bytes held) }
+    ensures { result ≡ parameter_along set last (bytes held.entry) d at }
 {
-    match before {
-        ParameterRead::Damaged => ParameterRead::Damaged,
-        ParameterRead::Read {
-            interval: _,
-            count: at,
-        } => match read_parameter(older, newer, at, is_used(set, d), is_integer(d), last) {
-            ParameterRead::Damaged => ParameterRead::Damaged,
-            ParameterRead::Read { interval, count } => ParameterRead::Read {
-                interval,
-                count: at + count,
-            },
-        },
+    if !is_used(set, d) {
+        return Some((whole_line(), at));
     }
+    let (interval, count) = read_used(held, at, is_integer(d), recall(last, d))?;
+    Some((interval, at + count))
 }
 
-// The interval of a parameter that was read.
-fn interval_of(p: ParameterRead) -> Interval
-    ensures { result ≡ interval_read p }
-{
-    match p {
-        ParameterRead::Damaged => whole_line(),
-        ParameterRead::Read { interval, count } => interval,
-    }
-}
-
-// The direction byte, behind the rest: the block is made here.
-fn read_direction<'a>(
-    older: &'a [u8],
-    newer: &'a [u8],
+// The used parameters in order, and the direction, behind x and y: the block is made here.
+fn read_parameters(
+    held: Stretches<'_>,
+    at: usize,
+    set: u8,
+    last: Last,
     x: Coordinate,
     y: Coordinate,
-    m: Interval,
-    n: Interval,
-    theta: Interval,
-    t: Interval,
-    at: usize,
-) -> BlockRead
-    ensures { result ≡ direction_read (older.now ++ newer.now) (record { x = x; y = y; m = m; n = n; theta = theta; t = t; dir = 0 }) at }
+) -> Option<(Block, usize)>
+    requires { at ≤ length (bytes held) }
+    ensures { result ≡ rest_read set last (bytes held.entry) (with_place x y at) }
 {
-    if older.len() + newer.len() <= at {
-        return BlockRead::Damaged;
-    }
-    let dir = byte_at(older, newer, at);
+    let (m, at_n) = read_along(held, at, set, last, Direction::M)?;
+    let (n, at_theta) = read_along(held, at_n, set, last, Direction::N)?;
+    let (theta, at_t) = read_along(held, at_theta, set, last, Direction::Theta)?;
+    let (t, end) = read_along(held, at_t, set, last, Direction::T)?;
+    let dir = held.get(end)?;
     let block = Block {
         x,
         y,
@@ -277,116 +166,43 @@ fn read_direction<'a>(
         t,
         dir,
     };
-    BlockRead::Read {
-        block,
-        count: at + 1,
-    }
-}
-
-// The same behind the parameters, if the last of them was read.
-fn read_end<'a>(
-    older: &'a [u8],
-    newer: &'a [u8],
-    x: Coordinate,
-    y: Coordinate,
-    m: ParameterRead,
-    n: ParameterRead,
-    theta: ParameterRead,
-    t: ParameterRead,
-) -> BlockRead
-    ensures { result ≡ end_read (older.now ++ newer.now) x y (interval_read m) (interval_read n) (interval_read theta) t }
-{
-    match t {
-        ParameterRead::Damaged => BlockRead::Damaged,
-        ParameterRead::Read { interval, count } => read_direction(
-            older,
-            newer,
-            x,
-            y,
-            interval_of(m),
-            interval_of(n),
-            interval_of(theta),
-            interval,
-            count,
-        ),
-    }
-}
-
-// The used parameters in order, and the direction, behind x and y.
-fn read_parameters<'a>(
-    older: &'a [u8],
-    newer: &'a [u8],
-    set: u8,
-    last: Last,
-    x: Coordinate,
-    y: Coordinate,
-    at: usize,
-) -> BlockRead
-    requires { at ≤ length older.now + length newer.now }
-    ensures { result ≡ rest_read set last (older.now ++ newer.now) (with_place x y at) }
-{
-    let line = whole_line();
-    let start = ParameterRead::Read {
-        interval: line,
-        count: at,
-    };
-    let m = read_behind(older, newer, set, Direction::M, last.m, start);
-    let n = read_behind(older, newer, set, Direction::N, last.n, m);
-    let theta = read_behind(older, newer, set, Direction::Theta, last.theta, n);
-    let t = read_behind(older, newer, set, Direction::T, last.t, theta);
-    read_end(older, newer, x, y, m, n, theta, t)
+    Some((block, end + 1))
 }
 
 // What stands behind x and y: the direction alone where the set has no parameter.
-fn read_rest<'a>(
-    older: &'a [u8],
-    newer: &'a [u8],
+fn read_rest(
+    held: Stretches<'_>,
+    at: usize,
     set: u8,
     last: Last,
     x: Coordinate,
     y: Coordinate,
-    at: usize,
-) -> BlockRead
-    requires { at ≤ length older.now + length newer.now }
-    ensures { result ≡ rest_read set last (older.now ++ newer.now) (with_place x y at) }
+) -> Option<(Block, usize)>
+    requires { at ≤ length (bytes held) }
+    ensures { result ≡ rest_read set last (bytes held.entry) (with_place x y at) }
 {
-    if set % 16 == 0 {
-        let line = whole_line();
-        return read_direction(older, newer, x, y, line, line, line, line, at);
+    if set % 16 != 0 {
+        return read_parameters(held, at, set, last, x, y);
     }
-    read_parameters(older, newer, set, last, x, y, at)
-}
-
-// y and the rest, behind x.
-fn read_y<'a>(
-    older: &'a [u8],
-    newer: &'a [u8],
-    set: u8,
-    last: Last,
-    x: Coordinate,
-    at: usize,
-) -> BlockRead
-    requires { at ≤ length older.now + length newer.now }
-    ensures { result ≡ rest_read set last (older.now ++ newer.now) (with_y x at (coordinate_read last.y (drop at (older.now ++ newer.now)))) }
-{
-    match read_coordinate(older, newer, at, last.y) {
-        CoordinateRead::Damaged => BlockRead::Damaged,
-        CoordinateRead::Read {
-            coordinate: y,
-            count,
-        } => read_rest(older, newer, set, last, x, y, at + count),
-    }
+    let dir = held.get(at)?;
+    let line = whole_line();
+    let block = Block {
+        x,
+        y,
+        m: line,
+        n: line,
+        theta: line,
+        t: line,
+        dir,
+    };
+    Some((block, at + 1))
 }
 
 // The block at the front of the two stretches, against the remembered values.
-pub(crate) fn read_block<'a>(older: &'a [u8], newer: &'a [u8], set: u8, last: Last) -> BlockRead
-    ensures { result ≡ decode set last (older.now ++ newer.now) }
+pub(crate) fn read_block(held: Stretches<'_>, set: u8, last: Last) -> Option<(Block, usize)>
+    ensures { result ≡ decode set last (bytes held.entry) }
 {
-    match read_coordinate(older, newer, 0, last.x) {
-        CoordinateRead::Damaged => BlockRead::Damaged,
-        CoordinateRead::Read {
-            coordinate: x,
-            count,
-        } => read_y(older, newer, set, last, x, count),
-    }
+    let (x, at) = read_coordinate(held, 0, last.x)?;
+    let (y, count) = read_coordinate(held, at, last.y)?;
+    read_rest(held, at + count, set, last, x, y)
 }

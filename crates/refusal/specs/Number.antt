@@ -1,9 +1,7 @@
--- Document 01, "Numbers of refusal", and those that document 02's requests add: the number of each refusal, and of an answer that says yes or no.
-use Rattle.std.specs.Prelude.{Bool, true, false, cond, List, [], ◌∷◌, ℕ}
+-- Document 01, "Numbers of refusal", and those that document 02's requests add: the number of each refusal, and of an answer that can be refused.
+use Rattle.std.specs.Prelude.{Bool, true, false, cond, List, [], ◌∷◌, ℕ, Result, Ok, Err}
 use Rattle.refusal.specs.declared.Refusal.{Refusal}
 use Rattle.refusal.specs.declared.Refusal.TheVariants as R
-use Rattle.refusal.specs.declared.Whether.{Whether}
-use Rattle.refusal.specs.declared.Whether.TheVariants as W
 
 -- the number in the table
 abbrev pub number : Refusal → ℕ
@@ -35,18 +33,13 @@ unfoldable pub first_of : List (ℕ × Bool) → ℕ
 first_of [] = 0
 first_of ((k, applies) ∷ rows) = cond applies k (first_of rows)
 
--- yes or no, by a test
-abbrev pub answered : Bool → Whether
-answered true = W.Yes
-answered false = W.No
+-- the number of an answer: 0 where what was asked for was done, else that of its refusal
+abbrev pub answer_number : {A : Type 0} → Result A Refusal → ℕ
+answer_number (Ok a) = 0
+answer_number (Err why) = number why
 
--- the number of such an answer, 0 where the question was answered, and its value: 1 for yes, 0 for no and for none
-abbrev pub whether_number : Whether → ℕ
-whether_number W.Yes = 0
-whether_number W.No = 0
-whether_number (W.Refused why) = number why
-
-abbrev pub whether_value : Whether → ℕ
-whether_value W.Yes = 1
-whether_value W.No = 0
-whether_value (W.Refused why) = 0
+-- the value of an answer that says yes or no: 1 for yes, 0 for no and for none
+abbrev pub whether_value : Result Bool Refusal → ℕ
+whether_value (Ok true) = 1
+whether_value (Ok false) = 0
+whether_value (Err why) = 0

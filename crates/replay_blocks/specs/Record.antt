@@ -1,5 +1,7 @@
 -- What stands in a record, and when two values have the same bits.
-use Rattle.std.specs.Prelude.{Bool, ◌&&◌, List, ℕ, ◌+◌, ◌*◌, eqb, get_or, take, drop}
+use Rattle.std.specs.Prelude.{Result, Ok, Err}
+use Rattle.queue.specs.declared.QueueError.{QueueError}
+use Rattle.std.specs.Prelude.{Bool, ◌&&◌, List, ℕ, ◌+◌, eqb, get_or, take, drop}
 use Rattle.std.specs.Float.{binary64}
 use Rattle.std.specs.Float.Ieee.{of_bits, to_bits}
 use Rattle.base.specs.Bytes.{of_big_endian}
@@ -8,11 +10,10 @@ use Rattle.interval.specs.declared.Interval.{Interval}
 use Rattle.queue.specs.declared.Block.{Block}
 use Rattle.queue.specs.declared.Last.{Last}
 use Rattle.queue.specs.declared.Measured.{Measured}
-use Rattle.queue.specs.declared.Measured.TheVariants as M
 
 -- the number in two bytes, and in eight, the higher first
 abbrev pub number_at : List ℕ → ℕ → ℕ
-number_at rec at = get_or rec at 0 * 256 + get_or rec (at + 1) 0
+number_at rec at = of_big_endian (take 2 (drop at rec))
 
 abbrev pub word_at : List ℕ → ℕ → ℕ
 word_at rec at = of_big_endian (take 8 (drop at rec))
@@ -67,6 +68,6 @@ same_last a b =
     eqb a.x b.x && eqb a.y b.y && same_bounds a.m b.m && same_bounds a.n b.n && same_bounds a.theta b.theta && same_bounds a.t b.t
 
 -- the length of a code and what is remembered, or 65535 for a block that has none
-abbrev pub same_measure : Measured → ℕ → Last → Bool
-same_measure (M.Bytes count last) want memory = eqb count want && same_last last memory
-same_measure M.NotCodable want memory = eqb want 65535
+abbrev pub same_measure : Result Measured QueueError → ℕ → Last → Bool
+same_measure (Ok m) want memory = eqb m.count want && same_last m.last memory
+same_measure (Err why) want memory = eqb want 65535

@@ -1,59 +1,62 @@
 -- When a record agrees: what the queue's definitions answer to it is what the record holds. And how records are counted.
-use Rattle.std.specs.Prelude.{Bool, true, false, cond, ◌&&◌, ◌||◌, List, [], ◌∷◌, ℕ, ◌+◌, eqb, length, get_or, take, drop}
+use Rattle.std.specs.Prelude.{Result, Ok, Err}
+use Rattle.queue.specs.declared.QueueError.{QueueError}
+use Rattle.queue.specs.declared.QueueError.TheVariants as Q
+use Rattle.std.specs.Prelude.{Bool, true, false, ◌&&◌, List, ℕ, ◌+◌, eqb, length, get_or, take, drop, Option, Some, None}
+use Rattle.std.specs.Str.{bytes_eq}
 use Rattle.queue.specs.declared.Block.{Block}
 use Rattle.queue.specs.declared.Last.{Last}
 use Rattle.queue.specs.declared.Appended.{Appended}
-use Rattle.queue.specs.declared.Appended.TheVariants as A
 use Rattle.queue.specs.declared.Taken.{Taken}
-use Rattle.queue.specs.declared.Taken.TheVariants as T
 use Rattle.queue.specs.Queue.{taken, measured, appended}
-use Rattle.replay_blocks.specs.declared.Tested.{Tested}
-use Rattle.replay_blocks.specs.declared.Score.{Score}
+use Rattle.replay_blocks.specs.declared.tested.Tested.{Tested}
+use Rattle.replay_blocks.specs.declared.score.Score.{Score}
+use Rattle.replay_blocks.specs.declared.score.Outcome.{Outcome}
+use Rattle.replay_blocks.specs.declared.score.Outcome.TheVariants as O
+use Rattle.replay_blocks.specs.declared.kind.Kind.{Kind}
+use Rattle.replay_blocks.specs.declared.kind.Kind.TheVariants as K
+use Rattle.replay_blocks.specs.Kind.{kind_of}
 use Rattle.replay_blocks.specs.Record.{number_at, block_at, last_at, same_block, same_last, same_measure}
 
--- the same bytes, and as many
-unfoldable pub same_bytes : List ℕ → List ℕ → Bool
-same_bytes [] [] = true
-same_bytes [] (y ∷ ys) = false
-same_bytes (x ∷ xs) [] = false
-same_bytes (x ∷ xs) (y ∷ ys) = eqb x y && same_bytes xs ys
-
 -- an answer to append against the answer, the use and the memory that are wanted
-abbrev pub same_appended : Appended → ℕ → ℕ → Last → Bool
-same_appended (A.Done last u) want used memory = eqb want 0 && eqb u used && same_last last memory
-same_appended A.NoRoom want used memory = eqb want 1
-same_appended A.NotCodable want used memory = eqb want 2
-same_appended A.Outside want used memory = eqb want 3
+abbrev pub same_appended : Result Appended QueueError → ℕ → ℕ → Last → Bool
+same_appended (Ok a) want used memory = eqb want 0 && eqb a.used used && same_last a.last memory
+same_appended (Err Q.NoRoom) want used memory = eqb want 1
+same_appended (Err Q.NotCodable) want used memory = eqb want 2
+same_appended (Err Q.Outside) want used memory = eqb want 3
+same_appended (Err Q.Damaged) want used memory = false
 
 -- an answer to take against the answer, the head, the use, the block and the memory that are wanted
-abbrev pub same_taken : Taken → ℕ → ℕ → ℕ → Block → Last → Bool
-same_taken (T.Front b last h u) want head used block memory = eqb want 0 && eqb h head && eqb u used && same_block b block && same_last last memory
-same_taken T.Damaged want head used block memory = eqb want 1
-same_taken T.Outside want head used block memory = eqb want 2
+abbrev pub same_taken : Result Taken QueueError → ℕ → ℕ → ℕ → Block → Last → Bool
+same_taken (Ok t) want head used block memory = eqb want 0 && eqb t.head head && eqb t.used used && same_block t.block block && same_last t.last memory
+same_taken (Err Q.Damaged) want head used block memory = eqb want 1
+same_taken (Err Q.Outside) want head used block memory = eqb want 2
+same_taken (Err Q.NoRoom) want head used block memory = false
+same_taken (Err Q.NotCodable) want head used block memory = false
 
 -- the bytes of the ring under test
-abbrev pub ring_of : List ℕ → Tested → List ℕ
-ring_of ring q = take q.len ring
+abbrev pub ring_of : Tested → List ℕ
+ring_of q = take q.len q.buffer
 
 -- a block is measured as the record says
-unfoldable pub measure_agrees : List ℕ → Tested → Bool
+abbrev pub measure_agrees : List ℕ → Tested → Bool
 measure_agrees rec q = same_measure (measured q.set q.back (block_at rec 8)) (number_at rec 4) (last_at rec 91)
 
 -- and appended
-unfoldable pub append_agrees : List ℕ → List ℕ → Tested → Bool
-append_agrees rec ring q =
+abbrev pub append_agrees : List ℕ → Tested → Bool
+append_agrees rec q =
     measure_agrees rec q
     && same_appended
-    (appended (length (ring_of ring q)) q.head q.used q.set q.back (block_at rec 8))
+    (appended (length (ring_of q)) q.head q.used q.set q.back (block_at rec 8))
     (get_or rec 1 0)
     (number_at rec 2)
     (last_at rec 91)
 
 -- the front block is the record's
-unfoldable pub take_agrees : List ℕ → List ℕ → Tested → Bool
-take_agrees rec ring q =
+abbrev pub take_agrees : List ℕ → Tested → Bool
+take_agrees rec q =
     same_taken
-    (taken (ring_of ring q) q.head q.used q.set q.front)
+    (taken (ring_of q) q.head q.used q.set q.front)
     (get_or rec 1 0)
     (number_at rec 2)
     (number_at rec 4)
@@ -61,29 +64,36 @@ take_agrees rec ring q =
     (last_at rec 91)
 
 -- the ring's bytes are the record's
-unfoldable pub ring_agrees : List ℕ → List ℕ → Tested → Bool
-ring_agrees rec ring q = same_bytes (ring_of ring q) (take q.len (drop 16 rec))
+abbrev pub ring_agrees : List ℕ → Tested → Bool
+ring_agrees rec q = bytes_eq (ring_of q) (take q.len (drop 16 rec))
 
--- a record by its kind: 0 and 4 set up and hold no answer, 1 appends, 2 takes, 3 compares; any other is none
-unfoldable pub agrees : List ℕ → List ℕ → Tested → Bool
-agrees rec ring q =
-    cond (eqb (get_or rec 0 0) 1)
-    (append_agrees rec ring q)
-    (cond (eqb (get_or rec 0 0) 2) (take_agrees rec ring q) (eqb (get_or rec 0 0) 3 && ring_agrees rec ring q))
+-- how a comparison went
+abbrev pub compared : Bool → Outcome
+compared true = O.Agreed
+compared false = O.Differed
 
-abbrev pub sets_up : ℕ → Bool
-sets_up kind = eqb kind 0 || eqb kind 4
+-- what becomes of a record of a kind: a start and a recall hold no answer, and one of no kind differs
+abbrev pub outcome_of : Option Kind → List ℕ → Tested → Outcome
+outcome_of (Some K.Start) rec q = O.SetUp
+outcome_of (Some K.Append) rec q = compared (append_agrees rec q)
+outcome_of (Some K.Take) rec q = compared (take_agrees rec q)
+outcome_of (Some K.Compare) rec q = compared (ring_agrees rec q)
+outcome_of (Some K.Recall) rec q = O.SetUp
+outcome_of None rec q = O.Differed
+
+abbrev pub outcome : List ℕ → Tested → Outcome
+outcome rec q = outcome_of (kind_of (get_or rec 0 0)) rec q
 
 -- how many records were counted
 abbrev pub records : Score → ℕ
 records t = t.agree + t.differ + t.setup
 
 -- THE COUNTS with one record more: it set up, agreed or differed
-unfoldable pub counted_by : Bool → Bool → Score → Score
-counted_by true ok t = record { agree = t.agree; differ = t.differ; setup = t.setup + 1 }
-counted_by false true t = record { agree = t.agree + 1; differ = t.differ; setup = t.setup }
-counted_by false false t = record { agree = t.agree; differ = t.differ + 1; setup = t.setup }
+abbrev pub counted_by : Outcome → Score → Score
+counted_by O.SetUp t = record { agree = t.agree; differ = t.differ; setup = t.setup + 1 }
+counted_by O.Agreed t = record { agree = t.agree + 1; differ = t.differ; setup = t.setup }
+counted_by O.Differed t = record { agree = t.agree; differ = t.differ + 1; setup = t.setup }
 
--- and with a record of the list, by its kind and by whether it agrees
-abbrev pub tallied_by : List ℕ → List ℕ → Tested → Score → Score
-tallied_by rec ring q t = counted_by (sets_up (get_or rec 0 0)) (agrees rec ring q) t
+-- and with a record of the list, by what becomes of it
+abbrev pub tallied_by : List ℕ → Tested → Score → Score
+tallied_by rec q t = counted_by (outcome rec q) t

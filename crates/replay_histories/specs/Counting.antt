@@ -1,5 +1,5 @@
 -- How the replay counts its calls.
-use Rattle.std.specs.Prelude.{◌≡◌, List, ℕ, ◌+◌}
+use Rattle.std.specs.Prelude.{◌≡◌, ℕ, ◌+◌}
 use Rattle.replay_histories.specs.declared.tally.CallScore.{CallScore}
 
 -- all calls counted so far
@@ -17,10 +17,6 @@ with_different t = record { agree = t.agree; differ = t.differ + 1; before = t.b
 -- a part of the list is closed: its calls are those before the next part
 abbrev pub closed : CallScore → CallScore
 closed t = record { agree = 0; differ = 0; before = t.before + t.agree; wrong = t.wrong + t.differ }
-
--- a call left both tables as the list wants them
-abbrev pub Same : List ℕ → List ℕ → List ℕ → List ℕ → Type 0
-Same words bytes got left = (words ≡ got) × (bytes ≡ left)
 
 -- a call counts as agreed if that is so, and as different if not
 abbrev pub CountedBy : Type 0 → CallScore → CallScore → Type 0

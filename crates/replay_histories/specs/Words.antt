@@ -1,23 +1,11 @@
--- The tables' lengths, and what stands in the table of words.
-use Rattle.std.specs.Prelude.{◌≡◌, List, ℕ, ◌+◌, ◌/◌, ◌%◌, ◌≤◌, length, get_or}
-use Rattle.std.specs.Float.{binary64}
-use Rattle.std.specs.Float.Ieee.{of_bits}
-use Rattle.interval.specs.declared.Interval.{Interval}
+-- What stands in the table of words.
+use Rattle.std.specs.Prelude.{List, ℕ, ◌+◌, ◌/◌, ◌%◌, ◌≤◌, get_or}
+use Rattle.replay_lists.specs.Words.{interval_in}
 use Rattle.queue.specs.declared.Last.{Last}
 use Rattle.decide.specs.declared.Chosen.{Chosen}
 use Rattle.implicit.specs.declared.state.State.{State}
 use Rattle.implicit.specs.declared.state.Ranges.{Ranges}
 use Rattle.replay_histories.specs.declared.record.Ends.{Ends}
-
--- the table of words, that of bytes, and the tile counts that a call is lent out of the words
-abbrev pub WordTable : List ℕ → Type 0
-WordTable l = length l ≡ 2048
-
-abbrev pub ByteTable : List ℕ → Type 0
-ByteTable l = length l ≡ 5120
-
-abbrev pub NumberTable : List ℕ → Type 0
-NumberTable l = length l ≡ 512
 
 -- what a call is lent begins and ends in the tables
 abbrev pub EndsInTables : Ends → Type 0
@@ -28,10 +16,6 @@ EndsInTables e =
     (3584 ≤ e.picture) × (e.picture ≤ 5120) ×
     (3072 ≤ e.other) × (e.other ≤ 4096) ×
     (e.numbers ≤ 512)
-
--- bounds by their bit patterns
-unfoldable pub interval_in : List ℕ → ℕ → Interval
-interval_in w at = record { lower = of_bits binary64 (get_or w at 0); upper = of_bits binary64 (get_or w (at + 1) 0) }
 
 -- remembered values: two indices, then m, n, n_theta, t
 unfoldable pub last_in : List ℕ → ℕ → Last

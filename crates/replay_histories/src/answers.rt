@@ -2,145 +2,119 @@
 // done, 2 limit, 3 more, 100 and a refusal's number: stop), 46 to 51 the counts, 52 the number of children and from 53 on four blocks, 105 the bytes that a
 // ring needs; the record in 0 to 27. A refusal leaves 42 to 51 and 105 as they were.
 use crate::record::{put_block, put_state};
-use crate::tables::put;
+use crate::tables::Tables;
+use coordinate::Coordinate;
 use decide::Children;
-use implicit::{
-    CallAnswer, CountsAnswer, Ending, MoveAnswer, NeededAnswer, RunAnswer, SetupAnswer, State,
-    StepAnswer, Tally,
-};
+use implicit::{Ended, Ending, Finished, Refused, Tally};
+use queue::{Block, whole_line};
 use refusal::Refusal;
 
-pub(crate) fn put_refusal(got: &mut [u64], why: Refusal) {
-    put(got, 41, refusal::number_of(why) as u64);
+pub(crate) fn put_refusal(left: &mut Tables, why: Refusal) {
+    left.put(41, refusal::number_of(why) as u64);
 }
 
-pub(crate) fn put_started(got: &mut [u64], answer: SetupAnswer) {
+// An answer: what was found, put by a function for it, or why nothing was.
+pub(crate) fn put_answer<T, F: FnOnce(&mut Tables, T)>(
+    left: &mut Tables,
+    answer: Result<T, Refusal>,
+    put_found: F,
+)
+    requires { F.IsAlwaysCallable put_found }
+{
     match answer {
-        SetupAnswer::Ready(state) => {
-            put(got, 41, 0);
-            put_state(got, state);
+        Ok(found) => {
+            left.put(41, 0);
+            put_found(left, found);
         }
-        SetupAnswer::Refused(why) => put_refusal(got, why),
+        Err(why) => put_refusal(left, why),
     }
 }
 
-pub(crate) fn put_children(got: &mut [u64], kids: Children) {
-    let at = kids.at;
-    put(got, 52, kids.count as u64);
-    put_block(got, 53, at[0]);
-    put_block(got, 66, at[1]);
-    put_block(got, 79, at[2]);
-    put_block(got, 92, at[3]);
+// The same of a call that hands back the record where it is refused.
+pub(crate) fn put_answer_or_state<T, F: FnOnce(&mut Tables, T)>(
+    left: &mut Tables,
+    answer: Result<T, Refused>,
+    put_found: F,
+)
+    requires { F.IsAlwaysCallable put_found }
+{
+    if let Err(refused) = &answer {
+        put_state(left, refused.state);
+    }
+    put_answer(left, answer.map_err(|refused| refused.why), put_found);
 }
 
-pub(crate) fn put_drawn(got: &mut [u64], answer: CallAnswer) {
-    match answer {
-        CallAnswer::Done => put(got, 41, 0),
-        CallAnswer::Refused(why) => put_refusal(got, why),
+// That a call was done, or why not.
+pub(crate) fn put_done(left: &mut Tables, answer: Result<(), Refusal>) {
+    put_answer(left, answer, |_left, ()| ());
+}
+
+// The children of a front block; where they are refused, none, and blocks of rank 0.
+pub(crate) fn put_listed(left: &mut Tables, answer: Result<Children, Refusal>) {
+    put_children(left, answer.unwrap_or(no_children()));
+    put_done(left, answer.map(|_| ()));
+}
+
+fn no_children() -> Children {
+    let c = Coordinate { index: 0, rank: 0 };
+    let all = whole_line();
+    let b = Block {
+        x: c,
+        y: c,
+        m: all,
+        n: all,
+        theta: all,
+        t: all,
+        dir: 0,
+    };
+    Children {
+        at: [b; 4],
+        count: 0,
     }
 }
 
-pub(crate) fn put_stepped(got: &mut [u64], answer: StepAnswer) {
-    match answer {
-        StepAnswer::Finished {
-            state,
-            evaluations,
-            verdicts,
-        } => {
-            put(got, 41, 0);
-            put_state(got, state);
-            put(got, 42, evaluations);
-            put(got, 43, verdicts as u64);
-        }
-        StepAnswer::Refused { why, state } => {
-            put_refusal(got, why);
-            put_state(got, state);
-        }
+fn put_children(left: &mut Tables, kids: Children) {
+    left.put(52, kids.count as u64);
+    for (i, block) in kids.at.iter().enumerate() {
+        put_block(left, 53 + 13 * i, *block);
     }
 }
 
-fn put_ending(got: &mut [u64], ending: Ending) {
+pub(crate) fn put_finished(left: &mut Tables, f: Finished) {
+    put_state(left, f.state);
+    left.put_all(42, &[f.evaluations, f.verdicts as u64]);
+}
+
+fn ending_number(ending: Ending) -> u64 {
     match ending {
-        Ending::Done => put(got, 45, 1),
-        Ending::Limit => put(got, 45, 2),
-        Ending::More => put(got, 45, 3),
-        Ending::Stop(why) => put(got, 45, 100 + refusal::number_of(why) as u64),
+        Ending::Done => 1,
+        Ending::Limit => 2,
+        Ending::More => 3,
+        Ending::Stop(why) => 100 + refusal::number_of(why) as u64,
     }
-}
-
-fn put_sums(got: &mut [u64], steps: u64, evaluations: u64, tape: u64) {
-    put(got, 41, 0);
-    put(got, 42, evaluations);
-    put(got, 43, tape);
-    put(got, 44, steps);
 }
 
 // What a run left: the record, its sums and its ending.
-pub(crate) fn put_ended(
-    got: &mut [u64],
-    state: State,
-    steps: u64,
-    evaluations: u64,
-    tape: usize,
-    ending: Ending,
-) {
-    put_state(got, state);
-    put_sums(got, steps, evaluations, tape as u64);
-    put_ending(got, ending);
+pub(crate) fn put_ended(left: &mut Tables, e: Ended) {
+    put_state(left, e.state);
+    left.put_all(
+        42,
+        &[
+            e.evaluations,
+            e.tape as u64,
+            e.steps,
+            ending_number(e.ending),
+        ],
+    );
 }
 
-pub(crate) fn put_ran(got: &mut [u64], answer: RunAnswer) {
-    match answer {
-        RunAnswer::Ended {
-            state,
-            steps,
-            evaluations,
-            tape,
-            ending,
-        } => put_ended(got, state, steps, evaluations, tape, ending),
-        RunAnswer::Refused { why, state } => {
-            put_refusal(got, why);
-            put_state(got, state);
-        }
-    }
+pub(crate) fn put_tally(left: &mut Tables, n: Tally) {
+    left.put_all(
+        46,
+        &[n.trues, n.falses, n.uncertain, n.givenup, n.queued, n.share],
+    );
 }
 
-fn put_tally(got: &mut [u64], n: Tally) {
-    put(got, 41, 0);
-    put(got, 46, n.trues);
-    put(got, 47, n.falses);
-    put(got, 48, n.uncertain);
-    put(got, 49, n.givenup);
-    put(got, 50, n.queued);
-    put(got, 51, n.share);
-}
-
-pub(crate) fn put_counted(got: &mut [u64], answer: CountsAnswer) {
-    match answer {
-        CountsAnswer::Of(n) => put_tally(got, n),
-        CountsAnswer::Refused(why) => put_refusal(got, why),
-    }
-}
-
-pub(crate) fn put_needed(got: &mut [u64], answer: NeededAnswer) {
-    match answer {
-        NeededAnswer::Bytes(n) => {
-            put(got, 41, 0);
-            put(got, 105, n as u64);
-        }
-        NeededAnswer::Refused(why) => put_refusal(got, why),
-    }
-}
-
-pub(crate) fn put_moved(got: &mut [u64], answer: MoveAnswer) {
-    match answer {
-        MoveAnswer::Done(state) => {
-            put(got, 41, 0);
-            put_state(got, state);
-        }
-        MoveAnswer::Refused { why, state } => {
-            put_refusal(got, why);
-            put_state(got, state);
-        }
-    }
+pub(crate) fn put_needed(left: &mut Tables, bytes: usize) {
+    left.put(105, bytes as u64);
 }

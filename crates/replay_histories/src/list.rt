@@ -1,105 +1,73 @@
-// Reading the list: the next byte, and changes of the tables. A change is a number of stretches; a stretch says what it changes (0 the table of bytes, else
+// Reading the list: its next entry, and changes of the tables. A change is a number of stretches; a stretch says what it changes (0 the table of bytes, else
 // that of words and how many bytes each value has), the place of its first value in two bytes, the number of its values, and the values; all with the higher
 // byte first.
-ghost use Rattle.std.specs.Prelude.{◌≡◌, ◌<◌, IfOk};
-
-use crate::tables::{put, put_byte, wide};
+use crate::tables::Tables;
+use replay_lists::bytes::bytes_at;
+use replay_lists::list::next_bytes;
 use std::io;
 use std::io::Read;
 
-fn place(b: u8) -> usize
-    ensures { (result ≡ b) × (result < 256) }
-{
-    b as usize
+// An entry of the list: a call by its number, the end of a part, or the list's.
+#[derive(Clone, Copy)]
+pub(crate) enum Entry {
+    Call(u8),
+    PartEnd,
+    End,
 }
 
-fn byte(b: u8) -> u8
-    ensures { (result ≡ b) × (result < 256) }
-{
-    b
+impl From<u8> for Entry {
+    fn from(code: u8) -> Entry {
+        match code {
+            0 => Entry::End,
+            255 => Entry::PartEnd,
+            number => Entry::Call(number),
+        }
+    }
 }
 
 // The next byte, 0 at the end of the list.
-pub(crate) fn next_byte(list: &mut impl Read) -> io::Result<u8>
-    ensures { IfOk result (λ b. b < 256) }
-{
-    let mut b = [0u8; 1];
-    stream::read_full(list, &mut b)?;
-    Ok(byte(b[0]))
+fn next_byte(list: &mut impl Read) -> io::Result<u8> {
+    let [byte] = next_bytes::<1, _>(list)?;
+    Ok(byte)
 }
 
-// The next two bytes as a number.
-fn next_place(list: &mut impl Read) -> io::Result<usize>
-    ensures { IfOk result (λ n. n < 65536) }
-{
-    let high = place(next_byte(list)?);
-    let low = place(next_byte(list)?);
-    Ok(high * 256 + low)
+pub(crate) fn next_entry(list: &mut impl Read) -> io::Result<Entry> {
+    Ok(Entry::from(next_byte(list)?))
 }
 
 // The next bytes as a number, of which the last eight count.
-fn next_word(list: &mut impl Read, size: usize) -> io::Result<u64>
-    ensures { IfOk result (λ n. n < 18446744073709551616) }
-{
-    let mut v: u64 = 0;
-    for _i in 0..size {
-        v = v % 72057594037927936 * 256 + wide(next_byte(list)?);
-    }
-    Ok(v)
+fn next_word(list: &mut impl Read, size: u8) -> io::Result<u64> {
+    let mut bytes = [0u8; 263];
+    let size = usize::from(size);
+    stream::read_full(list, &mut bytes[8..8 + size])?;
+    Ok(u64::from_be_bytes(bytes_at(&bytes, size)))
 }
 
-fn read_words(
-    list: &mut impl Read,
-    words: &mut [u64],
-    at: usize,
-    count: usize,
-    size: usize,
-) -> io::Result<()>
-    requires { (at < 65536) × (count < 256) }
-{
-    for i in 0..count {
-        put(words, at + i, next_word(list, size)?);
+fn read_stretch(list: &mut impl Read, tables: &mut Tables) -> io::Result<()> {
+    let [size, high, low, count] = next_bytes::<4, _>(list)?;
+    let from = usize::from(u16::from_be_bytes([high, low]));
+    for at in from..from + usize::from(count) {
+        if size == 0 {
+            tables.put_byte(at, next_byte(list)?);
+        } else {
+            tables.put(at, next_word(list, size)?);
+        }
     }
     Ok(())
-}
-
-fn read_bytes(list: &mut impl Read, bytes: &mut [u8], at: usize, count: usize) -> io::Result<()>
-    requires { (at < 65536) × (count < 256) }
-{
-    for i in 0..count {
-        put_byte(bytes, at + i, next_byte(list)?);
-    }
-    Ok(())
-}
-
-fn read_change(list: &mut impl Read, words: &mut [u64], bytes: &mut [u8]) -> io::Result<()> {
-    let size = place(next_byte(list)?);
-    let at = next_place(list)?;
-    let count = place(next_byte(list)?);
-    if size == 0 {
-        read_bytes(list, bytes, at, count)
-    } else {
-        read_words(list, words, at, count, size)
-    }
 }
 
 // The next change of the tables.
-pub(crate) fn change(list: &mut impl Read, words: &mut [u64], bytes: &mut [u8]) -> io::Result<()> {
-    let stretches = place(next_byte(list)?);
-    for _i in 0..stretches {
-        read_change(list, words, bytes)?;
+pub(crate) fn change(list: &mut impl Read, tables: &mut Tables) -> io::Result<()> {
+    for _ in 0..next_byte(list)? {
+        read_stretch(list, tables)?;
     }
     Ok(())
 }
 
 // The title of a part, which the list has as a length byte and so many bytes.
 pub(crate) fn say_title(rt: &impl Print, list: &mut impl Read) -> io::Result<()> {
-    let mut text = [0u8; 256];
-    let n = place(next_byte(list)?);
-    echo(rt, list, &mut text[0..n])
-}
-
-fn echo(rt: &impl Print, list: &mut impl Read, text: &mut [u8]) -> io::Result<()> {
-    stream::read_full(list, text)?;
-    rt.write_all(text)
+    let mut buffer = [0u8; 256];
+    let title = &mut buffer[..usize::from(next_byte(list)?)];
+    stream::read_full(list, title)?;
+    rt.write_all(title)
 }

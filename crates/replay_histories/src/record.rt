@@ -1,119 +1,87 @@
 // What stands in the table of words: records, ranges and blocks, a word for each number and the bit pattern for each bound.
-ghost use Rattle.std.specs.Prelude.{◌≡◌, ◌+◌, ◌%◌, ◌<◌, ◌≤◌, min, length, get_or};
-ghost use Rattle.replay_histories.specs.Words.{interval_in, last_in, chosen_at, state_at, ranges_at, WordTable, EndsInTables};
+ghost use Rattle.std.specs.Prelude.{◌≡◌, ◌+◌, ◌<◌, ◌≤◌, min, length, get_or};
+ghost use Rattle.replay_histories.specs.Words.{last_in, chosen_at, state_at, ranges_at, EndsInTables};
 
-use crate::tables::{BYTES, CELLS, NUMBERS, PICTURE, VERDICTS, WORDS, put};
-use coordinate::Coordinate;
+use crate::tables::{BYTES, CELLS, NUMBERS, PICTURE, Tables, VERDICTS, WORDS, Words};
 use decide::Chosen;
 use implicit::{Ranges, State};
-use interval::{Interval, float_of};
+use interval::{Interval, bits_of};
 use queue::{Block, Last};
+use replay_lists::words::{interval_at, lower_half};
 
-// Bounds as they stand, legal or not.
-fn interval_at(w: &[u64], at: usize) -> Interval
-    requires { at + 2 ≤ length w.now }
-    ensures { result ≡ interval_in w.now at }
-{
-    let lower = float_of(w[at]);
-    let upper = float_of(w[at + 1]);
-    Interval { lower, upper }
-}
+// Where the budget of a run stands, or the steps that a ring is asked for; and the column of a pixel and its row from the top.
+pub(crate) const STEPS: usize = 39;
 
-fn last_at(w: &[u64], at: usize) -> Last
-    requires { at + 10 ≤ length w.now }
+pub(crate) const COLUMN: usize = 108;
+
+pub(crate) const ROW: usize = 109;
+
+#[tactic(auto, unfolding(crate::specs::Words::last_in))]
+fn last_at(w: &Words, at: usize) -> Last
+    requires { at + 10 ≤ 2048 }
     ensures { result ≡ last_in w.now at }
 {
-    let m = interval_at(w, at + 2);
-    let n = interval_at(w, at + 4);
-    let theta = interval_at(w, at + 6);
-    let t = interval_at(w, at + 8);
     Last {
         x: w[at],
         y: w[at + 1],
-        m,
-        n,
-        theta,
-        t,
+        m: interval_at(w, at + 2),
+        n: interval_at(w, at + 4),
+        theta: interval_at(w, at + 6),
+        t: interval_at(w, at + 8),
     }
 }
 
 // The sides in words 0 and 1; the set and the reserved bytes in word 2, the set lowest.
-pub(crate) fn chosen_at(w: &[u64]) -> Chosen
-    requires { 3 ≤ length w.now }
+pub(crate) fn chosen_at(w: &Words) -> Chosen
     ensures { result ≡ chosen_at w.now }
 {
+    let [set, reserved1, reserved2, reserved3, ..] = w[2].to_le_bytes();
     Chosen {
-        width: (w[0] % 4294967296) as u32,
-        height: (w[1] % 4294967296) as u32,
-        set: (w[2] % 256) as u8,
-        reserved1: (w[2] / 256 % 256) as u8,
-        reserved2: (w[2] / 65536 % 256) as u8,
-        reserved3: (w[2] / 16777216 % 256) as u8,
+        width: lower_half(w[0]),
+        height: lower_half(w[1]),
+        set,
+        reserved1,
+        reserved2,
+        reserved3,
     }
 }
 
 // The record in words 0 to 27.
-pub(crate) fn state_at(w: &[u64]) -> State
-    requires { 28 ≤ length w.now }
+#[tactic(auto, unfolding(crate::specs::Words::state_at))]
+pub(crate) fn state_at(w: &Words) -> State
     ensures { result ≡ state_at w.now }
 {
-    let chosen = chosen_at(w);
-    let front = last_at(w, 8);
-    let back = last_at(w, 18);
     State {
-        chosen,
+        chosen: chosen_at(w),
         taken: w[3],
         queued: w[4],
         len: w[5] as usize,
         head: w[6] as usize,
         used: w[7] as usize,
-        front,
-        back,
+        front: last_at(w, 8),
+        back: last_at(w, 18),
     }
 }
 
 // The ranges in words 28 to 35.
-pub(crate) fn ranges_at(w: &[u64]) -> Ranges
-    requires { 36 ≤ length w.now }
+#[tactic(auto, unfolding(crate::specs::Words::ranges_at))]
+pub(crate) fn ranges_at(w: &Words) -> Ranges
     ensures { result ≡ ranges_at w.now }
 {
-    let m = interval_at(w, 28);
-    let n = interval_at(w, 30);
-    let theta = interval_at(w, 32);
-    let t = interval_at(w, 34);
-    Ranges { m, n, theta, t }
-}
-
-// The budget of a run, or the steps that a ring is asked for.
-pub(crate) fn steps_at(w: &[u64]) -> u32
-    requires { 40 ≤ length w.now }
-    ensures { result ≡ get_or w.now 39 0 % 4294967296 }
-{
-    (w[39] % 4294967296) as u32
-}
-
-// The column of a pixel, and its row from the top.
-pub(crate) fn column_at(w: &[u64]) -> u32
-    requires { 109 ≤ length w.now }
-    ensures { result ≡ get_or w.now 108 0 % 4294967296 }
-{
-    (w[108] % 4294967296) as u32
-}
-
-pub(crate) fn row_at(w: &[u64]) -> u32
-    requires { 110 ≤ length w.now }
-    ensures { result ≡ get_or w.now 109 0 % 4294967296 }
-{
-    (w[109] % 4294967296) as u32
+    Ranges {
+        m: interval_at(w, 28),
+        n: interval_at(w, 30),
+        theta: interval_at(w, 32),
+        t: interval_at(w, 34),
+    }
 }
 
 // The length in a word, cut to what a table has room for.
-fn length_at(w: &[u64], at: usize, most: usize) -> usize
-    requires { at < length w.now }
+fn length_at(w: &Words, at: usize, most: usize) -> usize
+    requires { at < 2048 }
     ensures { result ≡ min (get_or w.now at 0) most }
 {
-    let n = w[at] as usize;
-    if n < most { n } else { most }
+    (w[at] as usize).min(most)
 }
 
 // Where what a call is lent ends: the ring, the verdicts, the picture and the other ring among the bytes, the cells among the words; and how many tile counts.
@@ -128,8 +96,7 @@ pub(crate) struct Ends {
 }
 
 // By the lengths in words 36, 37, 38, 40, 106 and 107.
-pub(crate) fn ends_at(w: &[u64]) -> Ends
-    requires { WordTable w.now }
+pub(crate) fn ends_at(w: &Words) -> Ends
     ensures { EndsInTables result }
 {
     Ends {
@@ -142,64 +109,61 @@ pub(crate) fn ends_at(w: &[u64]) -> Ends
     }
 }
 
-fn put_interval(w: &mut [u64], at: usize, i: Interval)
-    requires { at ≤ 1000 }
-{
-    put(w, at, interval::bits_of(i.lower));
-    put(w, at + 1, interval::bits_of(i.upper));
+// The bounds of four parameters, by their bits.
+fn parameter_words(m: Interval, n: Interval, theta: Interval, t: Interval) -> [u64; 8] {
+    [
+        bits_of(m.lower),
+        bits_of(m.upper),
+        bits_of(n.lower),
+        bits_of(n.upper),
+        bits_of(theta.lower),
+        bits_of(theta.upper),
+        bits_of(t.lower),
+        bits_of(t.upper),
+    ]
 }
 
-fn put_last(w: &mut [u64], at: usize, l: Last)
+fn put_last(left: &mut Tables, at: usize, l: Last)
     requires { at ≤ 100 }
 {
-    put(w, at, l.x);
-    put(w, at + 1, l.y);
-    put_interval(w, at + 2, l.m);
-    put_interval(w, at + 4, l.n);
-    put_interval(w, at + 6, l.theta);
-    put_interval(w, at + 8, l.t);
-}
-
-fn put_chosen(w: &mut [u64], p: Chosen) {
-    put(w, 0, p.width as u64);
-    put(w, 1, p.height as u64);
-    let low = p.set as u64 + 256 * (p.reserved1 as u64);
-    let high = p.reserved2 as u64 + 256 * (p.reserved3 as u64);
-    put(w, 2, low + 65536 * high);
-}
-
-fn put_counters(w: &mut [u64], s: State) {
-    put(w, 3, s.taken);
-    put(w, 4, s.queued);
-    put(w, 5, s.len as u64);
-    put(w, 6, s.head as u64);
-    put(w, 7, s.used as u64);
+    left.put_all(at, &[l.x, l.y]);
+    left.put_all(at + 2, &parameter_words(l.m, l.n, l.theta, l.t));
 }
 
 // The record, into words 0 to 27.
-pub(crate) fn put_state(w: &mut [u64], s: State) {
-    put_chosen(w, s.chosen);
-    put_counters(w, s);
-    put_last(w, 8, s.front);
-    put_last(w, 18, s.back);
-}
-
-fn put_coordinate(w: &mut [u64], at: usize, c: Coordinate)
-    requires { at ≤ 1000 }
-{
-    put(w, at, c.index);
-    put(w, at + 1, c.rank as u64);
+pub(crate) fn put_state(left: &mut Tables, s: State) {
+    let p = s.chosen;
+    let picture = [
+        u64::from(p.width),
+        u64::from(p.height),
+        u64::from(u32::from_le_bytes([p.set, p.reserved1, p.reserved2, p.reserved3])),
+    ];
+    left.put_all(0, &picture);
+    left.put_all(
+        3,
+        &[
+            s.taken,
+            s.queued,
+            s.len as u64,
+            s.head as u64,
+            s.used as u64,
+        ],
+    );
+    put_last(left, 8, s.front);
+    put_last(left, 18, s.back);
 }
 
 // A block, into 13 words.
-pub(crate) fn put_block(w: &mut [u64], at: usize, b: Block)
+pub(crate) fn put_block(left: &mut Tables, at: usize, b: Block)
     requires { at ≤ 100 }
 {
-    put_coordinate(w, at, b.x);
-    put_coordinate(w, at + 2, b.y);
-    put_interval(w, at + 4, b.m);
-    put_interval(w, at + 6, b.n);
-    put_interval(w, at + 8, b.theta);
-    put_interval(w, at + 10, b.t);
-    put(w, at + 12, b.dir as u64);
+    let places = [
+        b.x.index,
+        u64::from(b.x.rank),
+        b.y.index,
+        u64::from(b.y.rank),
+    ];
+    left.put_all(at, &places);
+    left.put_all(at + 4, &parameter_words(b.m, b.n, b.theta, b.t));
+    left.put(at + 12, u64::from(b.dir));
 }

@@ -2,137 +2,96 @@
 // make.py, beside src/, says how both were made and what a question looks like.
 #![tactic(auto)]
 
-ghost use Rattle.std.specs.Prelude.{◌+◌, ◌≤◌, length, take, drop, ◌≡◌};
-ghost use Rattle.base.specs.Bytes.{of_big_endian};
-
-use coordinate::{Coordinate, HalvesAnswer, PixelAnswer};
-use interval::{BitsAnswer, Interval, PiecesAnswer, PointAnswer, float_of};
-use refusal::{Refusal, Whether};
-use small::{CodeAnswer, ReadAnswer};
+use coordinate::{Coordinate, Halves};
+use interval::{Interval, Pieces, float_of};
+use replay_lists::bytes::{bytes_at, word_at};
+use replay_lists::list::{ask_all, next_record};
+use replay_lists::said::{say, say_answer, say_interval};
+use small::{Code, Number};
 use std::{fs, io};
 
-// A number, after a space.
-fn say(rt: &impl Print, n: u64) -> io::Result<()> {
-    print!(rt; " {n:x}")
+// What is asked.
+enum Question<'a> {
+    Write(u64),
+    Read(&'a [u8]),
+    Coordinate(Coordinate, u32),
+    Interval {
+        lower: u64,
+        upper: u64,
+        integer: bool,
+    },
+    Share {
+        settled: u32,
+        pixels: u32,
+    },
 }
 
-// A refusal's number, after a space and an r.
-fn say_refusal(rt: &impl Print, r: Refusal) -> io::Result<()> {
-    let n = refusal::number_of(r);
-    print!(rt; " r{n:x}")
+// The question in 25 bytes: its kind, and what that kind holds. None where there is no such kind, and of a code that does not fit.
+fn question_of(q: &[u8; 25]) -> Option<Question<'_>> {
+    match q[0] {
+        1 => Some(Question::Write(word_at(q, 1))),
+        2 => Some(Question::Read(q[2..18].get(..usize::from(q[1]))?)),
+        3 => Some(Question::Coordinate(
+            Coordinate {
+                index: word_at(q, 1),
+                rank: q[9],
+            },
+            u32::from_be_bytes(bytes_at(q, 10)),
+        )),
+        4 => Some(Question::Interval {
+            lower: word_at(q, 1),
+            upper: word_at(q, 9),
+            integer: q[17] == 1,
+        }),
+        5 => Some(Question::Share {
+            settled: u32::from_be_bytes(bytes_at(q, 1)),
+            pixels: u32::from_be_bytes(bytes_at(q, 5)),
+        }),
+        _ => None,
+    }
 }
 
 fn say_bool(rt: &impl Print, yes: bool) -> io::Result<()> {
     if yes { say(rt, 1) } else { say(rt, 0) }
 }
 
-fn say_whether(rt: &impl Print, w: Whether) -> io::Result<()> {
-    match w {
-        Whether::Yes => say(rt, 1),
-        Whether::No => say(rt, 0),
-        Whether::Refused(r) => say_refusal(rt, r),
-    }
+fn say_code(rt: &impl Print, code: Code) -> io::Result<()> {
+    say(rt, u64::from(code.head))?;
+    say(rt, code.tail)?;
+    say(rt, code.count as u64)
 }
 
-fn wide(x: u8) -> u64
-    ensures { result ≡ x }
-{
-    x as u64
+fn say_number(rt: &impl Print, number: Number) -> io::Result<()> {
+    say(rt, number.x)?;
+    say(rt, number.count as u64)
 }
 
-// The number of the 8 bytes of a question from `at` on.
-fn number_at(q: &[u8], at: usize) -> u64
-    requires { at + 8 ≤ length q.now }
-    ensures { result ≡ of_big_endian (take 8 (drop at q.now)) }
-{
-    let mut n: u64 = 0;
-    for i in 0..8 {
-        n = n * 256 + wide(q[at + i]);
-    }
-    n
-}
-
-fn ask_write(rt: &impl Print, q: &[u8; 25]) -> io::Result<()> {
-    match small::write_small(number_at(q, 1)) {
-        CodeAnswer::Code { head, tail, count } => {
-            say(rt, head as u64)?;
-            say(rt, tail)?;
-            say(rt, count as u64)
-        }
-        CodeAnswer::Refused(r) => say_refusal(rt, r),
-    }
-}
-
-fn ask_read(rt: &impl Print, q: &[u8; 25]) -> io::Result<()> {
-    let n = q[1];
-    if n <= 16 {
-        ask_bytes(rt, q, n as usize + 2)?;
-    }
-    Ok(())
-}
-
-// Reads a code from the bytes of a question that end before `end`.
-fn ask_bytes(rt: &impl Print, q: &[u8], end: usize) -> io::Result<()>
-    requires { (2 ≤ end) × (end ≤ length q.now) }
-{
-    say_read(rt, small::read_small(&q[2..end]))
-}
-
-fn say_read(rt: &impl Print, answer: ReadAnswer) -> io::Result<()> {
-    match answer {
-        ReadAnswer::Number { x, count } => {
-            say(rt, x)?;
-            say(rt, count as u64)
-        }
-        ReadAnswer::Refused(r) => say_refusal(rt, r),
-    }
-}
-
-fn ask_coordinate(rt: &impl Print, q: &[u8; 25]) -> io::Result<()> {
-    let c = Coordinate {
-        index: number_at(q, 1),
-        rank: q[9],
-    };
-    let side = (number_at(q, 10) / 4294967296) as u32;
+fn ask_coordinate(rt: &impl Print, c: Coordinate, side: u32) -> io::Result<()> {
     say_bool(rt, coordinate::is_legal(c))?;
-    say_pixel(rt, coordinate::pixel_index(c))?;
-    say_halves(rt, coordinate::subdivide(c))?;
-    say_whether(rt, coordinate::is_subdivisible(c))?;
-    say_whether(rt, coordinate::is_inside(c, side))
+    say_answer(rt, coordinate::pixel_index(c), |rt, n| say(rt, n))?;
+    say_answer(rt, coordinate::subdivide(c), |rt, h| say_halves(rt, h))?;
+    say_answer(rt, coordinate::is_subdivisible(c), |rt, b| say_bool(rt, b))?;
+    say_answer(rt, coordinate::is_inside(c, side), |rt, b| say_bool(rt, b))
 }
 
-fn say_pixel(rt: &impl Print, answer: PixelAnswer) -> io::Result<()> {
-    match answer {
-        PixelAnswer::At(n) => say(rt, n),
-        PixelAnswer::Refused(r) => say_refusal(rt, r),
-    }
-}
-
-fn say_halves(rt: &impl Print, answer: HalvesAnswer) -> io::Result<()> {
-    match answer {
-        HalvesAnswer::Halves { low, high } => {
-            say_coordinate(rt, low)?;
-            say_coordinate(rt, high)
-        }
-        HalvesAnswer::Refused(r) => say_refusal(rt, r),
-    }
+fn say_halves(rt: &impl Print, halves: Halves) -> io::Result<()> {
+    say_coordinate(rt, halves.low)?;
+    say_coordinate(rt, halves.high)
 }
 
 fn say_coordinate(rt: &impl Print, c: Coordinate) -> io::Result<()> {
     say(rt, c.index)?;
-    say(rt, c.rank as u64)
+    say(rt, u64::from(c.rank))
 }
 
-fn ask_interval(rt: &impl Print, q: &[u8; 25]) -> io::Result<()> {
-    let lower = number_at(q, 1);
-    let upper = number_at(q, 9);
-    let integer = q[17] == 1;
+fn ask_interval(rt: &impl Print, lower: u64, upper: u64, integer: bool) -> io::Result<()> {
     let x = Interval {
         lower: float_of(lower),
         upper: float_of(upper),
     };
     ask_bounds(rt, x, integer)?;
-    say_bits(rt, interval::interval_from_bits(lower, upper, integer))?;
+    let read = interval::interval_from_bits(lower, upper, integer);
+    say_answer(rt, read, |rt, x| say_interval(rt, x))?;
     ask_put(rt, x)
 }
 
@@ -145,82 +104,75 @@ fn ask_put(rt: &impl Print, x: Interval) -> io::Result<()> {
 
 fn ask_bounds(rt: &impl Print, x: Interval, integer: bool) -> io::Result<()> {
     say_bool(rt, interval::is_legal(x, integer))?;
-    say_point(rt, interval::midpoint(x))?;
-    say_point(rt, interval::subdivision_point(x, integer))?;
-    say_whether(rt, interval::is_subdivisible(x, integer))?;
-    say_pieces(rt, interval::first_cut(x, integer))?;
-    say_pieces(rt, interval::later_cut(x, integer))?;
-    say_point(rt, interval::simple_fraction(x))
+    let cut_at = interval::subdivision_point(x, integer);
+    say_answer(rt, interval::midpoint(x), |rt, p| say_point(rt, p))?;
+    say_answer(rt, cut_at, |rt, p| say_point(rt, p))?;
+    say_answer(
+        rt,
+        interval::is_subdivisible(x, integer),
+        |rt, b| say_bool(rt, b),
+    )?;
+    say_answer(
+        rt,
+        interval::first_cut(x, integer),
+        |rt, p| say_pieces(rt, p),
+    )?;
+    say_answer(
+        rt,
+        interval::later_cut(x, integer),
+        |rt, p| say_pieces(rt, p),
+    )?;
+    say_answer(rt, interval::simple_fraction(x), |rt, p| say_point(rt, p))
 }
 
-fn ask_share(rt: &impl Print, q: &[u8; 25]) -> io::Result<()> {
-    let settled = (number_at(q, 1) / 4294967296) as u32;
-    let pixels = (number_at(q, 5) / 4294967296) as u32;
-    say(rt, image::share_of(settled, pixels))
+fn say_point(rt: &impl Print, p: f64) -> io::Result<()> {
+    say(rt, interval::bits_of(p))
 }
 
-fn say_point(rt: &impl Print, answer: PointAnswer) -> io::Result<()> {
-    match answer {
-        PointAnswer::At(x) => say(rt, interval::bits_of(x)),
-        PointAnswer::Refused(r) => say_refusal(rt, r),
-    }
-}
-
-fn say_interval(rt: &impl Print, x: Interval) -> io::Result<()> {
-    say(rt, interval::bits_of(x.lower))?;
-    say(rt, interval::bits_of(x.upper))
-}
-
-fn say_pieces(rt: &impl Print, answer: PiecesAnswer) -> io::Result<()> {
-    match answer {
-        PiecesAnswer::One(a) => {
+fn say_pieces(rt: &impl Print, pieces: Pieces) -> io::Result<()> {
+    match pieces {
+        Pieces::One(a) => {
             say(rt, 1)?;
             say_interval(rt, a)
         }
-        PiecesAnswer::Two(a, b) => {
+        Pieces::Two(a, b) => {
             say(rt, 2)?;
             say_interval(rt, a)?;
             say_interval(rt, b)
         }
-        PiecesAnswer::Three(a, b, c) => {
+        Pieces::Three(a, b, c) => {
             say(rt, 3)?;
             say_interval(rt, a)?;
             say_interval(rt, b)?;
             say_interval(rt, c)
         }
-        PiecesAnswer::Refused(r) => say_refusal(rt, r),
-    }
-}
-
-fn say_bits(rt: &impl Print, answer: BitsAnswer) -> io::Result<()> {
-    match answer {
-        BitsAnswer::Bounds(x) => say_interval(rt, x),
-        BitsAnswer::Refused(r) => say_refusal(rt, r),
     }
 }
 
 // Prints one answer.
 fn ask(rt: &impl Print, q: &[u8; 25]) -> io::Result<()> {
-    let kind = q[0];
-    match kind {
-        1 => ask_write(rt, q)?,
-        2 => ask_read(rt, q)?,
-        3 => ask_coordinate(rt, q)?,
-        4 => ask_interval(rt, q)?,
-        5 => ask_share(rt, q)?,
-        _ => (),
+    match question_of(q) {
+        Some(Question::Write(x)) => {
+            say_answer(rt, small::write_small(x), |rt, c| say_code(rt, c))?
+        }
+        Some(Question::Read(code)) => {
+            say_answer(rt, small::read_small(code), |rt, n| say_number(rt, n))?
+        }
+        Some(Question::Coordinate(c, side)) => ask_coordinate(rt, c, side)?,
+        Some(
+            Question::Interval {
+                lower,
+                upper,
+                integer,
+            },
+        ) => ask_interval(rt, lower, upper, integer)?,
+        Some(Question::Share { settled, pixels }) => say(rt, image::share_of(settled, pixels))?,
+        None => (),
     }
     println!(rt)
 }
 
 fn main(rt: HostRuntime) -> io::Result<()> {
     let mut leaves = fs::open(&rt, "leaves")?;
-    for asked in 0..1000000u64 {
-        let mut q = [0u8; 25];
-        if stream::read_full(&mut leaves, &mut q)? < 25 {
-            return println!(rt; " {asked:x} questions");
-        }
-        ask(&rt, &q)?;
-    }
-    Ok(())
+    ask_all(&rt, &mut leaves, next_record, |q| ask(&rt, &q))
 }

@@ -2,36 +2,59 @@
 // significant byte first; make.py, beside this crate's folders, says which, writes them, and works out what is to be printed.
 #![tactic(auto)]
 
-ghost use Rattle.std.specs.Prelude.{◌≡◌, ◌+◌, ◌*◌, ◌<◌, ◌≤◌};
-ghost use Rattle.replay_rectangles.specs.Word.{half_at, case_word};
+ghost use Rattle.std.specs.Prelude.{◌≤◌, length};
 
-use coordinate::Coordinate;
-use image::{CellKind, CellTallyAnswer, Op, PixelRange, Seen};
+use image::{CellKind, CellTally, Op, PixelRange};
+use replay_lists::list::{next_words, play_entries};
+use replay_lists::words::{coordinate_at, lower_half};
 use std::io;
 
-fn wide(b: u8) -> u64
-    ensures { (result ≡ b) × (result < 256) }
-{
-    b as u64
+// How many cells a case has, all lent or only the first of them.
+const CELLS: usize = 40;
+
+// A picture's sides, the pixels that are looked at and painted, and how many blocks were taken.
+#[derive(Clone, Copy)]
+struct Field {
+    width: u32,
+    height: u32,
+    pixels: PixelRange,
+    taken: u64,
 }
 
-// Four bytes of a case.
-fn half(case: &[u8; 448], at: usize) -> u64
-    requires { at + 4 ≤ 448 }
-    ensures { (result ≡ half_at case.now at) × (result < 4294967296) }
-{
-    wide(case[at])
-        + 256 * wide(case[at + 1])
-        + 65536 * wide(case[at + 2])
-        + 16777216 * wide(case[at + 3])
+// The pixels of a case: those of a block, or those within bounds.
+fn pixels_of(case: &[u64; 56]) -> PixelRange {
+    if case[3] == 0 {
+        let x = coordinate_at(case, 4);
+        let y = coordinate_at(case, 6);
+        return image::rectangle(x, y, lower_half(case[0]), lower_half(case[1]));
+    }
+    PixelRange {
+        left: case[4] as usize,
+        right: case[5] as usize,
+        top: case[6] as usize,
+        bottom: case[7] as usize,
+    }
 }
 
-// A word of a case.
-fn word(case: &[u8; 448], place: usize) -> u64
-    requires { place < 56 }
-    ensures { result ≡ case_word case.now place }
-{
-    half(case, 8 * place) + 4294967296 * half(case, 8 * place + 4)
+fn field_of(case: &[u64; 56]) -> Field {
+    Field {
+        width: lower_half(case[0]),
+        height: lower_half(case[1]),
+        pixels: pixels_of(case),
+        taken: case[11],
+    }
+}
+
+// What is done to the cells.
+fn op_of(case: &[u64; 56]) -> Op {
+    let from = case[9];
+    let to = case[10];
+    match case[8] {
+        0 => Op::Mark,
+        1 => Op::Name { from, to },
+        2 => Op::GiveUp,
+        _ => Op::Fill { to },
+    }
 }
 
 fn say_range(rt: &impl Print, r: PixelRange) -> io::Result<()> {
@@ -41,24 +64,24 @@ fn say_range(rt: &impl Print, r: PixelRange) -> io::Result<()> {
     )
 }
 
-fn say_seen(rt: &impl Print, text: &str, s: Seen) -> io::Result<()> {
+fn say_seen(rt: &impl Print, text: &str, s: Option<bool>) -> io::Result<()> {
     let seen = match s {
-        Seen::Yes => "yes",
-        Seen::No => "no",
-        Seen::Outside => "outside",
+        Some(true) => "yes",
+        Some(false) => "no",
+        None => "outside",
     };
     print!(rt; "{text}{seen}")
 }
 
-fn say_counts(rt: &impl Print, a: CellTallyAnswer) -> io::Result<()> {
+fn say_counts(rt: &impl Print, a: Option<CellTally>) -> io::Result<()> {
     match a {
-        CellTallyAnswer::Of(t) => {
+        Some(t) => {
             print!(rt;
                 ", counts {} {} {} {}",
                 t.trues, t.falses, t.uncertain, t.givenup
             )
         }
-        CellTallyAnswer::Outside => print!(rt; ", counts outside"),
+        None => print!(rt; ", counts outside"),
     }
 }
 
@@ -85,85 +108,49 @@ fn say_bytes(rt: &impl Print, bytes: &[u8]) -> io::Result<()> {
 }
 
 fn draw(rt: &impl Print, cells: &[u64], taken: u64, out: &mut [u8]) -> io::Result<()> {
-    if image::draw(cells, taken, out) {
-        print!(rt; " drawn ")?;
-    } else {
-        print!(rt; " kept ")?;
-    }
+    let drawn = image::draw(cells, taken, out);
+    print!(rt; "{}", if drawn { " drawn " } else { " kept " })?;
     say_bytes(rt, out)
 }
 
 // Into as many bytes as cells, and into one byte, which most cells do not fit.
-fn draw_twice(rt: &impl Print, cells: &[u64], taken: u64) -> io::Result<()> {
-    let mut bytes = [9u8; 40];
-    let mut one = [9u8; 1];
-    let n = cells.len();
-    if n <= 40 {
-        draw(rt, cells, taken, &mut bytes[0..n])?;
-    }
-    draw(rt, cells, taken, &mut one[0..1])
+fn draw_twice(rt: &impl Print, cells: &[u64], taken: u64) -> io::Result<()>
+    requires { length cells.now ≤ 40 }
+{
+    draw(rt, cells, taken, &mut [9u8; CELLS][..cells.len()])?;
+    draw(rt, cells, taken, &mut [9u8; 1])
 }
 
-fn paint(
-    rt: &impl Print,
-    cells: &mut [u64],
-    width: u32,
-    height: u32,
-    r: PixelRange,
-    op: Op,
-) -> io::Result<()> {
-    if image::paint(cells, width, height, r, op) {
-        println!(rt; ", painted")
-    } else {
-        println!(rt; ", kept")
-    }
-}
-
-fn paint_as_asked(
-    rt: &impl Print,
-    case: &[u8; 448],
-    cells: &mut [u64],
-    width: u32,
-    height: u32,
-    r: PixelRange,
-) -> io::Result<()> {
-    let from = word(case, 9);
-    let to = word(case, 10);
-    match word(case, 8) {
-        0 => paint(rt, cells, width, height, r, Op::Mark),
-        1 => paint(rt, cells, width, height, r, Op::Name { from, to }),
-        2 => paint(rt, cells, width, height, r, Op::GiveUp),
-        _ => paint(rt, cells, width, height, r, Op::Fill { to }),
-    }
-}
-
-fn look(
-    rt: &impl Print,
-    cells: &[u64],
-    width: u32,
-    height: u32,
-    r: PixelRange,
-    taken: u64,
-) -> io::Result<()> {
+fn look(rt: &impl Print, cells: &[u64], f: Field) -> io::Result<()> {
     say_seen(
         rt,
         "\nall true ",
-        image::are_all_true(cells, width, height, r),
+        image::are_all_true(cells, f.width, f.height, f.pixels),
     )?;
     say_seen(
         rt,
         ", given up ",
-        image::rectangle_holds(cells, width, height, r, CellKind::GivenUp),
+        image::rectangle_holds(cells, f.width, f.height, f.pixels, CellKind::GivenUp),
     )?;
     say_seen(
         rt,
         ", damaged ",
-        image::rectangle_holds(cells, width, height, r, CellKind::Damaged),
+        image::rectangle_holds(cells, f.width, f.height, f.pixels, CellKind::Damaged),
     )?;
-    say_counts(rt, image::count(cells, width, height, r, taken))
+    say_counts(
+        rt,
+        image::count(cells, f.width, f.height, f.pixels, f.taken),
+    )
 }
 
-fn show(rt: &impl Print, cells: &[u64], taken: u64) -> io::Result<()> {
+fn paint(rt: &impl Print, cells: &mut [u64], f: Field, op: Op) -> io::Result<()> {
+    let painted = image::paint(cells, f.width, f.height, f.pixels, op);
+    println!(rt; "{}", if painted { ", painted" } else { ", kept" })
+}
+
+fn show(rt: &impl Print, cells: &[u64], taken: u64) -> io::Result<()>
+    requires { length cells.now ≤ 40 }
+{
     say_cells(rt, cells)?;
     println!(rt)?;
     say_characters(rt, cells, taken)?;
@@ -171,104 +158,22 @@ fn show(rt: &impl Print, cells: &[u64], taken: u64) -> io::Result<()> {
     println!(rt)
 }
 
-fn replay(
-    rt: &impl Print,
-    case: &[u8; 448],
-    cells: &mut [u64],
-    width: u32,
-    height: u32,
-    r: PixelRange,
-) -> io::Result<()> {
-    let taken = word(case, 11);
-    load(case, cells);
-    look(rt, cells, width, height, r, taken)?;
-    paint_as_asked(rt, case, cells, width, height, r)?;
-    show(rt, cells, taken)
-}
-
-fn load_cell(case: &[u8; 448], cells: &mut [u64], i: usize) {
-    if i < 40 {
-        if i < cells.len() {
-            cells[i] = word(case, 16 + i);
-        }
-    }
-}
-
-fn load(case: &[u8; 448], cells: &mut [u64]) {
-    for i in 0..cells.len() {
-        load_cell(case, cells, i);
-    }
-}
-
-fn play_range(
-    rt: &impl Print,
-    case: &[u8; 448],
-    width: u32,
-    height: u32,
-    r: PixelRange,
-) -> io::Result<()> {
-    let n = (word(case, 2) % 41) as usize;
-    print!(rt; "{width}x{height} of {n}")?;
-    say_range(rt, r)?;
-    let mut cells = [0u64; 40];
-    replay(rt, case, &mut cells[0..n], width, height, r)
-}
-
-fn play_block(rt: &impl Print, case: &[u8; 448], width: u32, height: u32) -> io::Result<()> {
-    let x = Coordinate {
-        index: word(case, 4),
-        rank: (word(case, 5) % 256) as u8,
-    };
-    let y = Coordinate {
-        index: word(case, 6),
-        rank: (word(case, 7) % 256) as u8,
-    };
-    play_range(
-        rt,
-        case,
-        width,
-        height,
-        image::rectangle(x, y, width, height),
-    )
-}
-
-fn play_bounds(rt: &impl Print, case: &[u8; 448], width: u32, height: u32) -> io::Result<()> {
-    let left = word(case, 4) as usize;
-    let right = word(case, 5) as usize;
-    let top = word(case, 6) as usize;
-    let bottom = word(case, 7) as usize;
-    play_range(
-        rt,
-        case,
-        width,
-        height,
-        PixelRange {
-            left,
-            right,
-            top,
-            bottom,
-        },
-    )
-}
-
-fn play(rt: &impl Print, case: &[u8; 448]) -> io::Result<()> {
-    let width = (word(case, 0) % 4294967296) as u32;
-    let height = (word(case, 1) % 4294967296) as u32;
-    if word(case, 3) == 0 {
-        play_block(rt, case, width, height)
-    } else {
-        play_bounds(rt, case, width, height)
-    }
+// A case: its cells looked at, painted, and shown.
+fn play(rt: &impl Print, case: &[u64; 56]) -> io::Result<()> {
+    let f = field_of(case);
+    let mut all = [0u64; CELLS];
+    all.copy_from_slice(&case[16..]);
+    let lent = (case[2] % 41) as usize;
+    let cells = &mut all[..lent];
+    print!(rt; "{}x{} of {lent}", f.width, f.height)?;
+    say_range(rt, f.pixels)?;
+    look(rt, cells, f)?;
+    paint(rt, cells, f, op_of(case))?;
+    show(rt, cells, f.taken)
 }
 
 fn main(rt: HostRuntime) -> io::Result<()> {
     let mut cases = rt.reader();
-    for _ in 0..4096 {
-        let mut case = [0u8; 448];
-        if stream::read_full(&mut cases, &mut case)? < 448 {
-            return Ok(());
-        }
-        play(&rt, &case)?;
-    }
+    play_entries(&mut cases, 4096, next_words, |case| play(&rt, &case))?;
     Ok(())
 }

@@ -4,32 +4,19 @@
 // crate's folders, works out by itself what they print, from documents 01 and 02.
 #![tactic(auto)]
 
-ghost use Rattle.std.specs.Prelude.{◌≡◌, ◌+◌, ◌*◌, ◌≤◌, ◌<◌, length, IfOk};
+ghost use Rattle.std.specs.Prelude.{◌≤◌, ◌<◌, length, IfOk};
 
 use std::io::Read;
 use std::rt::Files;
 use std::{fs, io};
 
-fn place(b: u8) -> usize
-    ensures { (result ≡ b) × (result < 256) }
-{
-    b as usize
-}
-
-// The number in two bytes, the higher first.
-fn number(high: u8, low: u8) -> usize
-    ensures { (result ≡ high * 256 + low) × (result < 65536) }
-{
-    place(high) * 256 + place(low)
-}
-
-// The number in the next two bytes of a file; 0 for those that are not there.
+// The number in the next two bytes of a file, the higher first; 0 for those that are not there.
 fn read_number(from: &mut impl Read) -> io::Result<usize>
     ensures { IfOk result (λ n. n < 65536) }
 {
     let mut two = [0u8; 2];
     stream::read_full(from, &mut two)?;
-    Ok(number(two[0], two[1]))
+    Ok(usize::from(u16::from_be_bytes(two)))
 }
 
 // The next bytes of a file, as many as are asked for; those that are not there stay 0.
@@ -75,11 +62,9 @@ fn play(rt: &(impl Files + Print), from: &mut impl Read, number: u64) -> io::Res
 }
 
 // So many of them.
-fn play_all(rt: &(impl Files + Print), from: &mut impl Read, count: usize) -> io::Result<()>
-    requires { count < 65536 }
-{
-    for i in 0..count {
-        play(rt, from, i as u64 + 1)?;
+fn play_all(rt: &(impl Files + Print), from: &mut impl Read, count: usize) -> io::Result<()> {
+    for number in 1..=count as u64 {
+        play(rt, from, number)?;
     }
     Ok(())
 }

@@ -1,42 +1,32 @@
 -- Laws of the printed text: what each answer of the engine prints, and that the picture's bytes show the readings. Assumes nothing.
 use mathlib.Core.Path.{◌≡◌, refl, sym, ap, ◌∙◌}
-use mathlib.Core.Bool.{true, false, ◌&&◌}
+use mathlib.Core.Bool.{◌&&◌}
 use mathlib.Core.List.{List, [], ◌∷◌, ◌++◌, map, map-append}
-use Prim.Native.Nat.{ℕ, ◌+◌, ◌-◌, ◌*◌, ◌≤◌}
+use Prim.Native.Nat.{ℕ, ◌+◌, ◌*◌, ◌≤◌}
 use native.Mathlib.Nat.{mul-le-mul_right}
 use native.Mathlib.Omega.{arith}
-use lib.ListN.{length, take, drop, length-map}
+use lib.ListN.{length, drop, length-map}
 use borrow.Author.Tests.{leb-true}
+use Rattle.std.specs.Prelude.{Result, Ok, Err}
 use Rattle.base.proofs.Test.{and_left}
 use Rattle.refusal.specs.declared.Refusal.{Refusal}
-use Rattle.refusal.specs.declared.Refusal.TheVariants as R
 use Rattle.image.specs.declared.Reading.{Reading}
 use Rattle.image.specs.declared.Reading.TheVariants as G
 use Rattle.image.specs.Cell.{Cell, reading, byte_of, character_of}
-use Rattle.queue.proofs.RingLaws.{rest_all}
 use Rattle.decide.specs.Damage.{legal_side, legal_set, legal_chosen}
 use Rattle.implicit.specs.declared.state.State.{State}
-use Rattle.implicit.specs.declared.state.SetupAnswer.{SetupAnswer}
-use Rattle.implicit.specs.declared.state.SetupAnswer.TheVariants as S
-use Rattle.implicit.specs.declared.state.RunAnswer.{RunAnswer}
-use Rattle.implicit.specs.declared.state.RunAnswer.TheVariants as A
-use Rattle.implicit.specs.declared.state.Ending.{Ending}
 use Rattle.implicit.specs.declared.state.Tally.{Tally}
-use Rattle.implicit.specs.declared.state.CountsAnswer.TheVariants as C
-use Rattle.implicit.specs.declared.state.CallAnswer.{CallAnswer}
-use Rattle.implicit.specs.declared.state.CallAnswer.TheVariants as D
 use Rattle.implicit.specs.Record.{pixel_count, pixel_cells}
 use Rattle.implicit.specs.Setup.{cleared, setup_answer, ring_begun, cells_begun}
-use Rattle.implicit.specs.Step.{World, world_of}
-use Rattle.implicit.specs.Run.{RunResult, not_run, has_run, run_of, RunsAs}
+use Rattle.implicit.specs.Step.{world_of}
+use Rattle.implicit.specs.Run.{run_of}
 use Rattle.implicit.specs.View.{picture_bytes, picture_left, picture_answer, if_done, counts_answer}
 use Rattle.implicit.proofs.RecordLaws.{sound_chosen}
 use Rattle.implicit.proofs.ViewLaws.{Viewable, viewable_drawn, picture_length, counted_viewable}
 use Rattle.sheet.specs.declared.head.Order.{Order}
-use Rattle.sheet.specs.Layout.{order_in, taken_sheet}
 use Rattle.sheet.specs.Text.{rows_of, characters, refused_text}
-use Rattle.sheet.specs.WritingComputed.{symbol_of}
-use Rattle.sheet.specs.Printed.{fresh_ring, fresh_cells, view_text, ran_text, order_text, text_of}
+use Rattle.sheet.specs.ChartComputed.{symbol_of}
+use Rattle.sheet.specs.Printed.{fresh_ring, fresh_cells, ran_text, order_text}
 use Rattle.sheet.proofs.RowLaws.{rows_front}
 
 -- WHAT THE BYTES SHOW
@@ -64,12 +54,12 @@ rows_shown s cells rest h =
 
 -- A CHART THAT IS COUNTED
 
-module _ (s : State) (cells : List ℕ) (n : Tally) (counted : counts_answer s cells ≡ C.Of n) where
+module _ (s : State) (cells : List ℕ) (n : Tally) (counted : counts_answer s cells ≡ Ok n) where
   -- it can be drawn
   viewable : Viewable s cells (pixel_count s.chosen)
   viewable = (counted_viewable s cells n counted).0
 
-  pub counted_drawn : (room : ℕ) → length cells ≤ room → picture_answer s cells room ≡ D.Done
+  pub counted_drawn : (room : ℕ) → length cells ≤ room → picture_answer s cells room ≡ Ok tt
   counted_drawn room h =
       let v = viewable in
       viewable_drawn s cells room (record { record_sound = v.record_sound; enough = v.enough; room_left = omega (arith, v.enough); cells_fine = v.cells_fine })
@@ -92,58 +82,23 @@ module _ (s : State) (cells : List ℕ) (n : Tally) (counted : counts_answer s c
       (a, omega (arith, a, b))
 
   -- the picture that is drawn into a buffer shows it
-  pub counted_shown : (out left : List ℕ) (d : CallAnswer) → length cells ≤ length out → d ≡ picture_answer s cells (length out)
+  pub counted_shown : (out left : List ℕ) (d : Result (Unit {0}) Refusal) → length cells ≤ length out → d ≡ picture_answer s cells (length out)
       → left ≡ if_done d (picture_left s cells out) out
       → rows_of s.chosen.width s.chosen.height (map symbol_of left) ≡ rows_of s.chosen.width s.chosen.height (characters s cells)
   unfolding picture_left
   counted_shown out left d h e f =
-      let g : d ≡ D.Done = e ∙ counted_drawn (length out) h in
-      let k : left ≡ picture_bytes s cells ++ drop (pixel_count s.chosen) out = f ∙ ap (λ (x : CallAnswer). if_done x (picture_bytes s cells ++ drop (pixel_count s.chosen) out) out) g in
+      let g : d ≡ Ok tt = e ∙ counted_drawn (length out) h in
+      let k : left ≡ picture_bytes s cells ++ drop (pixel_count s.chosen) out = f ∙ ap (λ (x : Result (Unit {0}) Refusal). if_done x (picture_bytes s cells ++ drop (pixel_count s.chosen) out) out) g in
       rw k (rows_shown s cells (drop (pixel_count s.chosen) out) viewable.enough)
 
 -- WHAT EACH ANSWER PRINTS
 
-module _ (w : World) (a : RunResult) (r : RunAnswer) (ring cells : List ℕ) (runs : RunsAs w a r ring cells) where
-  pub text_ended : (s : State) (steps evals tape : ℕ) (ending : Ending) → r ≡ A.Ended s steps evals tape ending
-      → view_text s cells steps evals ending (counts_answer s cells) ≡ ran_text a
-  text_ended s steps evals tape ending e = go a runs
-    where
-      go : (b : RunResult) → RunsAs w b r ring cells → view_text s cells steps evals ending (counts_answer s cells) ≡ ran_text b
-      go (not_run why) h = let k : A.Refused why w.state ≡ A.Ended s steps evals tape ending = sym h.0 ∙ e in let z : ◌≡◌ {A = ℕ} 0 1 = cc in absurd (omega arith)
-      go (has_run x) h =
-          let k : A.Ended x.world.state x.steps x.evaluations x.tape x.ending ≡ A.Ended s steps evals tape ending = sym h.0 ∙ e in
-          let a₁ : x.world.state ≡ s = cc in
-          let a₂ : x.steps ≡ steps = cc in
-          let a₃ : x.evaluations ≡ evals = cc in
-          let a₄ : x.ending ≡ ending = cc in
-          rw (h.2, ← a₁, ← a₂, ← a₃, ← a₄)
-
-  pub text_not_run : (why : Refusal) (s : State) → r ≡ A.Refused why s → refused_text why ≡ ran_text a
-  text_not_run why s e = go a runs
-    where
-      go : (b : RunResult) → RunsAs w b r ring cells → refused_text why ≡ ran_text b
-      go (not_run y) h = let k : A.Refused y w.state ≡ A.Refused why s = sym h.0 ∙ e in let j : y ≡ why = cc in rw j
-      go (has_run x) h =
-          let k : A.Ended x.world.state x.steps x.evaluations x.tape x.ending ≡ A.Refused why s = sym h.0 ∙ e in
-          let z : ◌≡◌ {A = ℕ} 0 1 = cc in absurd (omega arith)
-
-module _ (o : Order) (tape : List ℕ) (a : SetupAnswer) (is_a : a ≡ setup_answer (cleared o.chosen) o.ranges (length fresh_ring) (length fresh_cells)) where
-  pub text_ready : (s : State) (ring cells : List ℕ) → a ≡ S.Ready s → ring ≡ ring_begun (cleared o.chosen) o.ranges fresh_ring fresh_cells
+module _ (o : Order) (tape : List ℕ) (a : Result State Refusal) (is_a : a ≡ setup_answer (cleared o.chosen) o.ranges (length fresh_ring) (length fresh_cells)) where
+  pub text_ready : (s : State) (ring cells : List ℕ) → a ≡ Ok s → ring ≡ ring_begun (cleared o.chosen) o.ranges fresh_ring fresh_cells
       → cells ≡ cells_begun (cleared o.chosen) o.ranges fresh_ring fresh_cells → ran_text (run_of o.budget (world_of s ring cells) tape) ≡ order_text o tape
   unfolding order_text
-  text_ready s ring cells e r c = let k : setup_answer (cleared o.chosen) o.ranges (length fresh_ring) (length fresh_cells) ≡ S.Ready s = sym is_a ∙ e in rw (k, r, c)
+  text_ready s ring cells e r c = let k : setup_answer (cleared o.chosen) o.ranges (length fresh_ring) (length fresh_cells) ≡ Ok s = sym is_a ∙ e in rw (k, r, c)
 
-  pub text_not_ready : (why : Refusal) → a ≡ S.Refused why → refused_text why ≡ order_text o tape
+  pub text_not_ready : (why : Refusal) → a ≡ Err why → refused_text why ≡ order_text o tape
   unfolding order_text
-  text_not_ready why e = let k : setup_answer (cleared o.chosen) o.ranges (length fresh_ring) (length fresh_cells) ≡ S.Refused why = sym is_a ∙ e in rw k
-
-pub text_taken : (s tape : List ℕ) (o : Order) → taken_sheet s ≡ true → o ≡ order_in s → tape ≡ take (length s - o.tape) (drop o.tape s)
-    → order_text o tape ≡ text_of s
-unfolding text_of
-text_taken s tape o e f g =
-    let t : tape ≡ drop (order_in s).tape s = g ∙ rest_all s o.tape ∙ ap (λ (x : Order). drop x.tape s) f in
-    rw (e, t, f)
-
-pub text_not_taken : (s : List ℕ) → taken_sheet s ≡ false → refused_text R.Sheet ≡ text_of s
-unfolding text_of
-text_not_taken s e = rw e
+  text_not_ready why e = let k : setup_answer (cleared o.chosen) o.ranges (length fresh_ring) (length fresh_cells) ≡ Err why = sym is_a ∙ e in rw k

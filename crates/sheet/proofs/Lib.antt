@@ -1,6 +1,6 @@
 -- The laws of the sheet, by the definitions' files.
-pub mod WritingLaws
+pub mod DecimalLaws
 pub mod RowLaws
 pub mod LayoutLaws
 pub mod ChartLaws
-pub mod WhyLaws
+pub mod SheetLaws

@@ -1,110 +1,46 @@
 -- Laws of the rows: those still to put, that a buffer longer than the picture shows the picture, and where a character stands. Assumes nothing.
 use mathlib.Core.Path.{◌≡◌, refl, sym, ap, ◌∙◌}
-use mathlib.Core.List.{List, [], ◌∷◌, ◌++◌, map, append_assoc}
+use mathlib.Core.List.{List, ◌++◌, map, append_assoc}
 use Prim.Native.Nat.{ℕ, zero, suc, ◌+◌, ◌-◌, ◌*◌, ◌≤◌, ◌<◌}
 use native.Mathlib.Nat.{mul-suc, suc-mul}
 use native.Mathlib.Omega.{arith}
-use lib.ListN.{length, take, drop, get_or, length-append, length-map, length-drop, get_or-append}
-use lib.Seq.{drop-drop, take-append-le, drop-append-le, length-take-le, get_or-append-add, get_or-take, get_or-drop}
+use lib.ListN.{length, take, drop, get_or, length-drop, get_or-append}
+use lib.Seq.{take-append-le, drop-append-le, length-take-le, get_or-append-add, get_or-take, get_or-drop}
+use Rattle.std.proofs.lemmas.List.{take-map, drop-map}
 use Rattle.sheet.specs.Text.{line_end, rows_of}
-use Rattle.sheet.specs.WritingComputed.{written, Puts, symbol_of}
-use Rattle.sheet.proofs.WritingLaws.{write_more}
+use Rattle.sheet.specs.ChartComputed.{symbol_of}
 
--- the characters of a part
-take_map : (f : ℕ → ℕ) (k : ℕ) (l : List ℕ) → take k (map f l) ≡ map f (take k l)
-take_map f zero [] = refl
-take_map f zero (x ∷ l) = refl
-take_map f (suc k) [] = refl
-take_map f (suc k) (x ∷ l) = ap (λ (r : List ℕ). f x ∷ r) (take_map f k l)
+-- THE ROWS STILL TO PUT
 
-drop_map : (f : ℕ → ℕ) (k : ℕ) (l : List ℕ) → drop k (map f l) ≡ map f (drop k l)
-drop_map f zero [] = refl
-drop_map f zero (x ∷ l) = refl
-drop_map f (suc k) [] = refl
-drop_map f (suc k) (x ∷ l) = drop_map f k l
+-- a row more fits
+pub row_room : (k width height y room : ℕ) → y < height → k + width * (height - y) ≤ room → k + width + width * (height - (y + 1)) ≤ room
+row_room k width height y room more h =
+    let e : height - y ≡ suc (height - (y + 1)) = omega arith in
+    let m = mul-suc width (height - (y + 1)) in
+    omega (arith, m, rw e at h)
 
-drop_none : (l : List ℕ) → drop 0 l ≡ l
-drop_none [] = refl
-drop_none (x ∷ l) = refl
+-- the rows left are the next one and those below it
+row_next : (width height y : ℕ) (rest : List ℕ) → y < height
+    → rows_of width (height - y) (map symbol_of rest)
+    ≡ map symbol_of (take width rest) ++ line_end ++ rows_of width (height - (y + 1)) (map symbol_of (drop width rest))
+unfolding rows_of
+row_next width height y rest more =
+    let e : height - y ≡ suc (height - (y + 1)) = omega arith in
+    rw (e, take-map symbol_of width rest, drop-map symbol_of width rest)
 
--- the rows from one on, of the bytes from a place on
-unfoldable pub rows_left : ℕ → ℕ → List ℕ → ℕ → ℕ → List ℕ
-rows_left width height picture y from = rows_of width (height - y) (map symbol_of (drop from picture))
-
--- y rows are put: what is left to put, with what is put, is what was to put
-pub record Rows (width height : ℕ) (picture out₀ : List ℕ) (at₀ y : ℕ) (out : List ℕ) (at from : ℕ) : Type 0 where
-  pub few : y ≤ height
-  pub same : length out ≡ length out₀
-  pub pixels : from + width * (height - y) ≤ length picture
-  pub room : at + (width + 1) * (height - y) ≤ length out₀
-  pub bytes : written out at (rows_left width height picture y from) ≡ written out₀ at₀ (rows_of width height (map symbol_of picture))
-  pub place : at + length (rows_left width height picture y from) ≡ at₀ + length (rows_of width height (map symbol_of picture))
-
-pub rows_start : (width height : ℕ) (picture out : List ℕ) (at : ℕ) → width * height ≤ length picture
-    → at + (width + 1) * height ≤ length out → Rows width height picture out at 0 out at 0
-unfolding rows_left
-rows_start width height picture out at h k =
-    let e : height - 0 ≡ height = omega arith in
-    record { few = omega arith; same = refl; pixels = rw e (omega arith); room = rw e k; bytes = rw (e, drop_none picture); place = rw (e, drop_none picture) }
-
-module _ (width height : ℕ) (picture out₀ : List ℕ) (at₀ y : ℕ) (out : List ℕ) (at from : ℕ) (rows : Rows width height picture out₀ at₀ y out at from) (more : y < height) where
-  one_more : height - y ≡ suc (height - (y + 1))
-  one_more = omega arith
-
-  pixels_more : from + width + width * (height - (y + 1)) ≤ length picture
-  pixels_more = let h = rows.pixels in let e = mul-suc width (height - (y + 1)) in omega (arith, e, rw one_more at h)
-
-  room_more : at + (width + 1) + (width + 1) * (height - (y + 1)) ≤ length out₀
-  room_more = let h = rows.room in let e = mul-suc (width + 1) (height - (y + 1)) in omega (arith, e, rw one_more at h)
-
-  -- the next row lies in the picture, and there is room for it
-  pub row_end : from + width ≤ length picture
-  row_end = omega (arith, pixels_more)
-
-  pub row_length : length (take (from + width - from) (drop from picture)) ≡ width
-  row_length =
-      let e : from + width - from ≡ width = omega arith in
-      rw e (length-take-le width (drop from picture) (omega (arith, length-drop from picture, row_end)))
-
-  pub row_room : at + length (take (from + width - from) (drop from picture)) + 1 ≤ length out
-  row_room = omega (arith, row_length, room_more, rows.same)
-
-  -- the rows left are the next one and those behind it
-  rows_split : rows_left width height picture y from ≡ (map symbol_of (take (from + width - from) (drop from picture)) ++ line_end) ++ rows_left width height picture (y + 1) (from + width)
-  unfolding rows_left rows_of
-  rows_split =
-      let e : from + width - from ≡ width = omega arith in
-      let l = map symbol_of (drop from picture) in
-      let d : drop width l ≡ map symbol_of (drop (from + width) picture) = drop_map symbol_of width (drop from picture) ∙ ap (map symbol_of) (drop-drop width from picture) in
-      rw (one_more, e, d, take_map symbol_of width (drop from picture))
-
-  pub rows_again : (out' : List ℕ) (at' : ℕ) → length out' ≡ length out
-      → Puts out at (map symbol_of (take (from + width - from) (drop from picture)) ++ line_end) out' at'
-      → Rows width height picture out₀ at₀ (y + 1) out' at' (from + width)
-  rows_again out' at' same p =
-      let row = map symbol_of (take (from + width - from) (drop from picture)) in
-      let n : length (row ++ line_end) ≡ width + 1 = length-append row line_end ∙ omega (arith, length-map (take (from + width - from) (drop from picture)) symbol_of, row_length) in
-      let b = write_more p (rows_left width height picture (y + 1) (from + width)) in
-      let pl = length-append (row ++ line_end) (rows_left width height picture (y + 1) (from + width)) in
-      let sp = ap length rows_split in
-      record {
-        few = omega arith;
-        same = same ∙ rows.same;
-        pixels = pixels_more;
-        room = omega (arith, p.place, n, room_more);
-        bytes = b ∙ ap (written out at) (sym rows_split) ∙ rows.bytes;
-        place = omega (arith, p.place, sp, pl, rows.place);
-      }
-
-pub rows_end : (width height : ℕ) (picture out₀ : List ℕ) (at₀ y : ℕ) (out : List ℕ) (at from : ℕ)
-    → Rows width height picture out₀ at₀ y out at from → height ≤ y
-    → Puts out₀ at₀ (rows_of width height (map symbol_of picture)) out at × (at ≤ length out₀)
-unfolding rows_left rows_of written
-rows_end width height picture out₀ at₀ y out at from rows h =
-    let e : height - y ≡ 0 = omega arith in
-    let b = rows.bytes in
-    let p = rows.place in
-    (record { bytes = rw e at b; place = let q = rw e at p in omega arith }, omega (arith, rows.room))
+-- a row put: the text with the rows left is still the whole text
+pub row_put : (width height y : ℕ) (rest row below old new whole : List ℕ) → y < height → row ≡ take width rest → below ≡ drop width rest
+    → new ≡ old ++ map symbol_of row ++ line_end
+    → old ++ rows_of width (height - y) (map symbol_of rest) ≡ whole
+    → new ++ rows_of width (height - (y + 1)) (map symbol_of below) ≡ whole
+row_put width height y rest row below old new whole more e f g h =
+    let shown = map symbol_of (take width rest) in
+    let left = rows_of width (height - (y + 1)) (map symbol_of (drop width rest)) in
+    rw (g, e, f)
+    (ap (λ (t : List ℕ). t ++ left) (append_assoc old shown line_end)
+    ∙ append_assoc old (shown ++ line_end) left
+    ∙ ap (λ (t : List ℕ). old ++ t) (sym (row_next width height y rest more))
+    ∙ h)
 
 -- A LONGER BUFFER
 

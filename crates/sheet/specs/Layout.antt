@@ -18,7 +18,6 @@ use Rattle.queue.specs.Directions.{in_use}
 use Rattle.queue.specs.Block.{whole_line}
 use Rattle.decide.specs.Damage.{legal_side}
 use Rattle.implicit.specs.declared.state.Ranges.{Ranges}
-use Rattle.sheet.specs.declared.head.Places.{Places}
 use Rattle.sheet.specs.declared.head.Order.{Order}
 
 -- the number in so many bytes of a sheet, from one on
@@ -35,6 +34,13 @@ zero_bits s = get_or s 4 0 % 4
 -- the bytes of a parameter's range, if it is used
 abbrev pub range_bytes : ℕ → Direction → ℕ
 range_bytes set d = cond (in_use set d) 16 0
+
+-- places in a sheet
+pub record Places : Type 0 where
+  pub n : ℕ
+  pub theta : ℕ
+  pub t : ℕ
+  pub tape : ℕ
 
 -- where the ranges of n, n_theta and t stand, and the tape; that of m stands at byte 9
 unfoldable pub places_in : ℕ → Places

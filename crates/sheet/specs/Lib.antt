@@ -4,4 +4,4 @@ pub mod Decimal
 pub mod Text
 pub mod Printed
 pub mod Why
-pub mod WritingComputed
+pub mod ChartComputed

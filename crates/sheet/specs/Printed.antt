@@ -1,13 +1,11 @@
 -- The program's text: what a sheet prints, whole. Document 01, "Program and values". Each stage goes on from the answer of the one before it.
 -- A refusal prints its number, whichever stage it comes from; which can come is a theorem, `taken_prints` in `prints`, proofs/Prints.antt.
-use Rattle.std.specs.Prelude.{cond, List, ℕ, length, replicate, drop}
+use Rattle.std.specs.Prelude.{cond, List, ℕ, length, replicate, drop, Result, Ok, Err}
 use Rattle.refusal.specs.declared.Refusal.TheVariants as R
-use Rattle.implicit.specs.declared.state.SetupAnswer.{SetupAnswer}
-use Rattle.implicit.specs.declared.state.SetupAnswer.TheVariants as S
+use Rattle.refusal.specs.declared.Refusal.{Refusal}
 use Rattle.implicit.specs.declared.state.State.{State}
 use Rattle.implicit.specs.declared.state.Ending.{Ending}
-use Rattle.implicit.specs.declared.state.CountsAnswer.{CountsAnswer}
-use Rattle.implicit.specs.declared.state.CountsAnswer.TheVariants as C
+use Rattle.implicit.specs.declared.state.Tally.{Tally}
 use Rattle.implicit.specs.Setup.{cleared, setup_answer, ring_begun, cells_begun}
 use Rattle.implicit.specs.Step.{world_of}
 use Rattle.implicit.specs.Run.{RunResult, not_run, has_run, run_of}
@@ -24,9 +22,9 @@ abbrev pub fresh_cells : List ℕ
 fresh_cells = replicate 4096 0
 
 -- from the counts: the chart's text
-abbrev pub view_text : State → List ℕ → ℕ → ℕ → Ending → CountsAnswer → List ℕ
-view_text s cells steps evals ending (C.Of n) = chart_text s cells steps evals ending n
-view_text s cells steps evals ending (C.Refused why) = refused_text why
+abbrev pub view_text : State → List ℕ → ℕ → ℕ → Ending → Result Tally Refusal → List ℕ
+view_text s cells steps evals ending (Ok n) = chart_text s cells steps evals ending n
+view_text s cells steps evals ending (Err why) = refused_text why
 
 -- from the run: the counts of what it leaves
 abbrev pub ran_text : RunResult → List ℕ
@@ -35,9 +33,9 @@ ran_text (has_run e) =
 ran_text (not_run why) = refused_text why
 
 -- from the setup, with the ring and the cells that it leaves
-abbrev pub started_text : Order → List ℕ → List ℕ → List ℕ → SetupAnswer → List ℕ
-started_text o tape ring cells (S.Ready s) = ran_text (run_of o.budget (world_of s ring cells) tape)
-started_text o tape ring cells (S.Refused why) = refused_text why
+abbrev pub started_text : Order → List ℕ → List ℕ → List ℕ → Result State Refusal → List ℕ
+started_text o tape ring cells (Ok s) = ran_text (run_of o.budget (world_of s ring cells) tape)
+started_text o tape ring cells (Err why) = refused_text why
 
 -- of a sheet that is taken
 unfoldable pub order_text : Order → List ℕ → List ℕ

@@ -9,7 +9,7 @@
 --   refused 18
 --
 -- A question is the pixel's column and its row from the top, four bytes each, the most significant first, and then the sheet.
-use Rattle.std.specs.Prelude.{cond, List, [], ◌∷◌, ◌++◌, ℕ, eqb, ltb, length, drop}
+use Rattle.std.specs.Prelude.{cond, List, [], ◌∷◌, ◌++◌, ℕ, eqb, ltb, length, drop, Result, Ok, Err}
 use Rattle.refusal.specs.declared.Refusal.{Refusal}
 use Rattle.refusal.specs.declared.Refusal.TheVariants as R
 use Rattle.refusal.specs.Number.{number}
@@ -52,10 +52,10 @@ abbrev pub stop_text : Refusal → ℕ → List ℕ
 stop_text why steps = labelled (115 ∷ 116 ∷ 111 ∷ 112 ∷ 32 ∷ []) (number why) ++ labelled (32 ∷ 115 ∷ 116 ∷ 101 ∷ 112 ∷ 115 ∷ 32 ∷ []) steps
 
 -- the line
-abbrev pub explanation_text : Explanation → List ℕ
-explanation_text (X.Of reason s steps evals bytes e) = reason_text reason ++ line_end
-explanation_text (X.Stopped why s steps evals bytes) = stop_text why steps ++ line_end
-explanation_text (X.Refused why) = refused_text why
+abbrev pub explanation_text : Result Explanation Refusal → List ℕ
+explanation_text (Ok (X.Of reason s steps evals bytes e)) = reason_text reason ++ line_end
+explanation_text (Ok (X.Stopped why s steps evals bytes)) = stop_text why steps ++ line_end
+explanation_text (Err why) = refused_text why
 
 -- of a sheet that is taken, after its whole run
 unfoldable pub order_why : Order → List ℕ → ℕ → ℕ → List ℕ

@@ -1,21 +1,14 @@
 // The head of a sheet: sides, variable set, budget and ranges; and whether the program takes the sheet.
 // Document 01, "Program and values" and 14 of "Numbers of refusal". Most significant bits first.
-ghost use Rattle.std.specs.Prelude.{◌≡◌, true, ◌+◌, ◌*◌, ◌^◌, ◌≤◌, ◌<◌, length};
-ghost use Rattle.sheet.specs.Layout.{number_in, range_bytes, places_in, bounds_in, range_in, ranges_in, order_in, too_large, taken_sheet};
+ghost use Rattle.std.specs.Prelude.{◌≡◌, ◌+◌, ◌*◌, ◌≤◌, ◌<◌, length, drop, MatchOption, IfOk};
+ghost use Rattle.sheet.specs.Layout.{range_bytes, places_in, bounds_in, range_in, ranges_in, too_large};
+ghost use Rattle.sheet.specs.ChartComputed.{order_answer};
 
 use decide::{Chosen, is_legal_side};
 use implicit::Ranges;
 use interval::{Interval, float_of};
 use queue::{Direction, is_used, whole_line};
-
-// Where the ranges of n, n_theta and t stand, and the tape behind them.
-#[derive(Clone, Copy)]
-struct Places {
-    n: usize,
-    theta: usize,
-    t: usize,
-    tape: usize,
-}
+use refusal::Refusal;
 
 // What a sheet asks for, and where its tape begins.
 #[derive(Clone, Copy)]
@@ -26,115 +19,81 @@ pub(crate) struct Order {
     pub tape: usize,
 }
 
-fn wide(b: u8) -> u64
-    ensures { (result ≡ b) × (result < 256) }
+// Bounds as they stand, legal or not, and the bytes behind them.
+fn split_bounds(s: &[u8]) -> Option<(Interval, &[u8])>
+    ensures { MatchOption result (length s.now < 16) (λ p. (p.0 ≡ bounds_in s.now 0) × (p.1.now ≡ drop 16 s.now) × (length p.1.now + 16 ≡ length s.now)) }
 {
-    b as u64
+    let (lower, rest) = s.split_first_chunk::<8>()?;
+    let (upper, rest) = rest.split_first_chunk::<8>()?;
+    let lower = float_of(u64::from_be_bytes(*lower));
+    let upper = float_of(u64::from_be_bytes(*upper));
+    Some((Interval { lower, upper }, rest))
 }
 
-// The number in so many bytes.
-pub(crate) fn number_in(s: &[u8], at: usize, count: usize) -> u64
-    requires { (at + count ≤ length s.now) × (count ≤ 8) }
-    ensures { (result ≡ number_in s.now at count) × (result < 2 ^ (8 * count)) }
-{
-    let mut v: u64 = 0;
-    for i in 0..count {
-        v = v * 256 + wide(s[at + i]);
-    }
-    v
-}
-
-// Bounds as they stand, legal or not.
-fn bounds_in(s: &[u8], at: usize) -> Interval
-    requires { at + 16 ≤ length s.now }
-    ensures { result ≡ bounds_in s.now at }
-{
-    let lower = float_of(number_in(s, at, 8));
-    let upper = float_of(number_in(s, at + 8, 8));
-    Interval { lower, upper }
-}
-
-// A parameter's range, or the whole line for one that is not used.
-fn range_in(s: &[u8], set: u8, d: Direction, at: usize) -> Interval
-    requires { at + range_bytes set d ≤ length s.now }
-    ensures { result ≡ range_in s.now set d at }
+// A parameter's range, or the whole line for one that is not used, and the bytes behind it.
+fn split_range(s: &[u8], set: u8, d: Direction) -> Option<(Interval, &[u8])>
+    ensures { MatchOption result (length s.now < range_bytes set d)
+        (λ p. (p.0 ≡ range_in s.now set d 0) × (p.1.now ≡ drop (range_bytes set d) s.now) × (length p.1.now + range_bytes set d ≡ length s.now)) }
 {
     if is_used(set, d) {
-        bounds_in(s, at)
+        split_bounds(s)
     } else {
-        whole_line()
+        Some((whole_line(), s))
     }
 }
 
-fn range_bytes(set: u8, d: Direction) -> usize
-    ensures { (result ≡ range_bytes set d) × (result ≤ 16) }
+// The ranges of a sheet, which stand behind nine bytes, and the tape behind them.
+fn split_ranges(s: &[u8], set: u8) -> Option<(Ranges, &[u8])>
+    requires { 9 ≤ length s.now }
+    ensures { MatchOption result (length s.now < (places_in set).tape)
+        (λ p. (p.0 ≡ ranges_in s.now set) × (p.1.now ≡ drop (places_in set).tape s.now) × (length p.1.now + (places_in set).tape ≡ length s.now)) }
 {
-    if is_used(set, d) { 16 } else { 0 }
+    let (_, rest) = s.split_at(9);
+    let (m, rest) = split_range(rest, set, Direction::M)?;
+    let (n, rest) = split_range(rest, set, Direction::N)?;
+    let (theta, rest) = split_range(rest, set, Direction::Theta)?;
+    let (t, tape) = split_range(rest, set, Direction::T)?;
+    Some((Ranges { m, n, theta, t }, tape))
 }
 
-fn places_in(set: u8) -> Places
-    ensures { result ≡ places_in set }
+// Legal sides with over 4096 pixels.
+fn is_too_large(width: u32, height: u32) -> bool
+    requires { (width < 65536) × (height < 65536) }
+    ensures { result ≡ too_large width height }
 {
-    let n = 9 + range_bytes(set, Direction::M);
-    let theta = n + range_bytes(set, Direction::N);
-    let t = theta + range_bytes(set, Direction::Theta);
-    let tape = t + range_bytes(set, Direction::T);
-    Places { n, theta, t, tape }
+    is_legal_side(width) & is_legal_side(height) & (4096 < width * height)
 }
 
-// The ranges of the parameters in use.
-fn ranges_in(s: &[u8], set: u8) -> Ranges
-    requires { (places_in set).tape ≤ length s.now }
-    ensures { result ≡ ranges_in s.now set }
+// What a sheet asks for, if the program takes it.
+pub(crate) fn read_order(s: &[u8]) -> Result<Order, Refusal>
+    ensures value { result ≡ order_answer s.now }
+    ensures in_bounds { IfOk result (λ o. o.tape ≤ length s.now) }
 {
-    let at = places_in(set);
-    let m = range_in(s, set, Direction::M, 9);
-    let n = range_in(s, set, Direction::N, at.n);
-    let theta = range_in(s, set, Direction::Theta, at.theta);
-    let t = range_in(s, set, Direction::T, at.t);
-    Ranges { m, n, theta, t }
-}
-
-// What a sheet that is taken asks for.
-pub(crate) fn read_order(s: &[u8]) -> Order
-    requires { taken_sheet s.now ≡ true }
-    ensures { (result ≡ order_in s.now) × (result.tape ≤ length s.now) }
-{
-    let set = s[4] / 4;
-    let at = places_in(set);
-    let ranges = ranges_in(s, set);
+    let [w1, w0, h1, h0, uses, b3, b2, b1, b0, ..] = s else {
+        return Err(Refusal::Sheet);
+    };
+    let width = u32::from(u16::from_be_bytes([*w1, *w0]));
+    let height = u32::from(u16::from_be_bytes([*h1, *h0]));
+    let set = *uses / 4;
+    let Some((ranges, tape)) = split_ranges(s, set) else {
+        return Err(Refusal::Sheet);
+    };
+    let taken = (*uses % 4 == 0) & (s.len() <= 16384) & !is_too_large(width, height);
+    if !taken {
+        return Err(Refusal::Sheet);
+    }
     let chosen = Chosen {
-        width: number_in(s, 0, 2) as u32,
-        height: number_in(s, 2, 2) as u32,
+        width,
+        height,
         set,
         reserved1: 0,
         reserved2: 0,
         reserved3: 0,
     };
-    Order {
+    Ok(Order {
         chosen,
-        budget: number_in(s, 5, 4) as u32,
+        budget: u32::from_be_bytes([*b3, *b2, *b1, *b0]),
         ranges,
-        tape: at.tape,
-    }
-}
-
-// Legal sides with over 4096 pixels.
-fn is_too_large(width: u64, height: u64) -> bool
-    requires { (width < 65536) × (height < 65536) }
-    ensures { result ≡ too_large width height }
-{
-    is_legal_side(width as u32) & is_legal_side(height as u32) & (4096 < width * height)
-}
-
-// Whether the program takes a sheet.
-pub(crate) fn is_taken(s: &[u8]) -> bool
-    ensures { result ≡ taken_sheet s.now }
-{
-    if s.len() < 9 {
-        return false;
-    }
-    let at = places_in(s[4] / 4);
-    let large = is_too_large(number_in(s, 0, 2), number_in(s, 2, 2));
-    (at.tape <= s.len()) & (s[4] % 4 == 0) & (s.len() <= 16384) & !large
+        tape: s.len() - tape.len(),
+    })
 }

@@ -1,12 +1,12 @@
 // Why a pixel of a sheet's chart reads what it reads, as a line of text: document 02, (v). The ring and the cells are arrays of this crate.
-ghost use Rattle.std.specs.Prelude.{◌≡◌, ◌++◌, ◌+◌, ◌≤◌, length, drop};
-ghost use Rattle.sheet.specs.Text.{line_end};
+ghost use Rattle.std.specs.Prelude.{◌≡◌, Ok, [], ◌++◌, ◌+◌, ◌≤◌, length, drop};
 ghost use Rattle.sheet.specs.Why.{moment_text, point_text, waiting_text, reason_text, stop_text, explanation_text, order_why, sheet_why, why_of};
-ghost use Rattle.sheet.specs.WritingComputed.{Puts};
+ghost use Rattle.sheet.specs.ChartComputed.{Prints};
 
 use crate::head;
 use crate::head::Order;
-use crate::write::{put_bytes, put_labelled, put_refused};
+use crate::text::Text;
+use crate::write::put_refused;
 use explain::{Explanation, Moment, Reason};
 use refusal::{Refusal, number_of};
 
@@ -16,141 +16,129 @@ pub fn explain_sheet(question: &[u8], out: &mut [u8; 160]) -> usize
     ensures out_after { out.new ≡ why_of question.now ++ drop (length (why_of question.now)) out.old }
     ensures upper_bound { result ≤ 160 }
 {
-    print_why(question, out)
+    // `chart_sheet` ends as this does: one function for both would need the contract of a closure, longer than these lines.
+    let mut text = Text::new();
+    if let Err(why) = put_why(&mut text, question) {
+        put_refused(&mut text, why);
+    }
+    text.copy_to(out)
 }
 
-fn print_why(question: &[u8], out: &mut [u8]) -> usize
-    requires { length out.old ≡ 160 }
-    ensures { Puts out.old 0 (why_of question.now) out.new result × (result ≤ 160) }
+fn put_why(text: &mut Text<160>, question: &[u8]) -> Result<(), Refusal>
+    requires { text.old ≡ [] }
+    ensures { Prints result (why_of question.now) text.old text.new }
 {
-    if question.len() < 8 {
-        return put_refused(out, Refusal::Sheet);
-    }
-    let column = head::number_in(question, 0, 4) as u32;
-    let row = head::number_in(question, 4, 4) as u32;
-    print_sheet_why(&question[8..], column, row, out)
+    let [c3, c2, c1, c0, r3, r2, r1, r0, sheet @ ..] = question else {
+        return Err(Refusal::Sheet);
+    };
+    let column = u32::from_be_bytes([*c3, *c2, *c1, *c0]);
+    let row = u32::from_be_bytes([*r3, *r2, *r1, *r0]);
+    put_sheet_why(text, sheet, column, row)
 }
 
-fn print_sheet_why(sheet: &[u8], column: u32, row: u32, out: &mut [u8]) -> usize
-    requires { length out.old ≡ 160 }
-    ensures { Puts out.old 0 (sheet_why sheet.now column row) out.new result × (result ≤ 160) }
+fn put_sheet_why(text: &mut Text<160>, sheet: &[u8], column: u32, row: u32) -> Result<(), Refusal>
+    requires { text.old ≡ [] }
+    ensures { Prints result (sheet_why sheet.now column row) text.old text.new }
 {
-    if head::is_taken(sheet) {
-        let o = head::read_order(sheet);
-        let at = o.tape;
-        print_order_why(o, &sheet[at..], column, row, out)
-    } else {
-        put_refused(out, Refusal::Sheet)
-    }
+    let o = head::read_order(sheet)?;
+    put_order_why(text, o, &sheet[o.tape..], column, row)
 }
 
 // After all steps of the sheet's run.
-fn print_order_why(o: Order, tape: &[u8], column: u32, row: u32, out: &mut [u8]) -> usize
-    requires { length out.old ≡ 160 }
-    ensures { Puts out.old 0 (order_why o tape.now column row) out.new result × (result ≤ 160) }
+fn put_order_why(
+    text: &mut Text<160>,
+    o: Order,
+    tape: &[u8],
+    column: u32,
+    row: u32,
+) -> Result<(), Refusal>
+    requires { text.old ≡ [] }
+    ensures { Prints result (order_why o tape.now column row) text.old text.new }
 {
     let mut ring = [0u8; 16384];
     let mut cells = [0u64; 4096];
-    let chosen = o.chosen;
-    let ranges = o.ranges;
     let e = explain::explain(
-        chosen, ranges, &mut ring, &mut cells, tape, o.budget, column, row,
-    );
-    put_explanation(out, e)
+        o.chosen, o.ranges, &mut ring, &mut cells, tape, o.budget, column, row,
+    )?;
+    put_explanation(text, e);
+    Ok(())
 }
 
-fn put_explanation(out: &mut [u8], e: Explanation) -> usize
-    requires { 160 ≤ length out.old }
-    ensures { Puts out.old 0 (explanation_text e) out.new result × (result ≤ 160) }
+fn put_explanation(text: &mut Text<160>, e: Explanation)
+    requires { text.old ≡ [] }
+    ensures { text.new ≡ text.old ++ explanation_text (Ok e) }
 {
     match e {
-        Explanation::Of {
-            reason,
-            state: _,
-            steps: _,
-            evaluations: _,
-            tape: _,
-            ending: _,
-        } => put_reason_line(out, reason),
-        Explanation::Stopped {
-            why,
-            state: _,
-            steps,
-            evaluations: _,
-            tape: _,
-        } => put_stop_line(out, why, steps),
-        Explanation::Refused(why) => put_refused(out, why),
+        Explanation::Of { reason, .. } => put_reason(text, reason),
+        Explanation::Stopped { why, steps, .. } => put_stop(text, why, steps),
     }
+    text.put(b"\n");
 }
 
-fn put_reason_line(out: &mut [u8], reason: Reason) -> usize
-    requires { 160 ≤ length out.old }
-    ensures { Puts out.old 0 (reason_text reason ++ line_end) out.new result × (result ≤ 160) }
+fn put_stop(text: &mut Text<160>, why: Refusal, steps: u64)
+    requires { length text.old + 64 ≤ 160 }
+    ensures text { text.new ≡ text.old ++ stop_text why steps }
+    ensures size { length text.new ≤ length text.old + 64 }
 {
-    let at = put_reason(out, reason);
-    put_bytes(out, at, b"\n")
+    text.labelled(b"stop ", u64::from(number_of(why)));
+    text.labelled(b" steps ", steps);
 }
 
-fn put_stop_line(out: &mut [u8], why: Refusal, steps: u64) -> usize
-    requires { 160 ≤ length out.old }
-    ensures { Puts out.old 0 (stop_text why steps ++ line_end) out.new result × (result ≤ 160) }
-{
-    let at = put_labelled(out, 0, b"stop ", number_of(why) as u64);
-    let at = put_labelled(out, at, b" steps ", steps);
-    put_bytes(out, at, b"\n")
-}
-
-fn put_reason(out: &mut [u8], reason: Reason) -> usize
-    requires { 160 ≤ length out.old }
-    ensures { Puts out.old 0 (reason_text reason) out.new result × (result ≤ 120) }
+fn put_reason(text: &mut Text<160>, reason: Reason)
+    requires { length text.old + 120 ≤ 160 }
+    ensures text { text.new ≡ text.old ++ reason_text reason }
+    ensures size { length text.new ≤ length text.old + 120 }
 {
     match reason {
-        Reason::True { at, point } => put_true(out, at, point),
-        Reason::False { at } => put_moment(out, b"false", at),
-        Reason::GivenUp { at } => put_moment(out, b"givenup", at),
-        Reason::Waiting {
-            number,
-            before,
-            block: _,
-        } => put_waiting(out, number, before),
+        Reason::True { at, point } => put_true(text, at, point),
+        Reason::False { at } => put_moment(text, b"false", at),
+        Reason::GivenUp { at } => put_moment(text, b"givenup", at),
+        Reason::Waiting { number, before, .. } => put_waiting(text, number, before),
     }
 }
 
 // The child that marked it, and by what.
-fn put_true(out: &mut [u8], m: Moment, point: u8) -> usize
-    requires { 160 ≤ length out.old }
-    ensures { Puts out.old 0 (reason_text (Reason.True m point)) out.new result × (result ≤ 120) }
+fn put_true(text: &mut Text<160>, m: Moment, point: u8)
+    requires { length text.old + 120 ≤ 160 }
+    ensures text { text.new ≡ text.old ++ reason_text (Reason.True m point) }
+    ensures size { length text.new ≤ length text.old + 120 }
 {
-    let at = put_moment(out, b"true", m);
-    put_point(out, at, point)
+    put_moment(text, b"true", m);
+    put_point(text, point);
 }
 
-fn put_point(out: &mut [u8], at: usize, point: u8) -> usize
-    requires { at + 32 ≤ length out.old }
-    ensures { Puts out.old at (point_text point) out.new result × (result ≤ at + 32) }
+fn put_point(text: &mut Text<160>, point: u8)
+    requires { length text.old + 32 ≤ 160 }
+    ensures text { text.new ≡ text.old ++ point_text point }
+    ensures size { length text.new ≤ length text.old + 32 }
 {
     if point == 0 {
-        return put_bytes(out, at, b" area");
+        text.put(b" area");
+    } else {
+        text.labelled(b" point ", u64::from(point));
     }
-    put_labelled(out, at, b" point ", point as u64)
 }
 
-// A short word at the start, then a step and a child in it.
-fn put_moment(out: &mut [u8], word: &[u8], m: Moment) -> usize
-    requires { (length word.now ≤ 12) × (160 ≤ length out.old) }
-    ensures { Puts out.old 0 (word.now ++ moment_text m) out.new result × (result ≤ 76) }
+// A short word, then a step and a child in it.
+#[tactic(auto, unfolding(crate::specs::Why::moment_text))]
+fn put_moment(text: &mut Text<160>, word: &[u8], m: Moment)
+    requires word { length word.now ≤ 12 }
+    requires room { length text.old + 76 ≤ 160 }
+    ensures text { text.new ≡ text.old ++ word.now ++ moment_text m }
+    ensures size { length text.new ≤ length text.old + 76 }
 {
-    let at = put_bytes(out, 0, word);
-    let at = put_labelled(out, at, b" step ", m.step);
-    put_labelled(out, at, b" child ", m.child as u64)
+    text.put(word);
+    text.labelled(b" step ", m.step);
+    text.labelled(b" child ", u64::from(m.child));
 }
 
 // A block that waits.
-fn put_waiting(out: &mut [u8], number: u64, before: u64) -> usize
-    requires { 160 ≤ length out.old }
-    ensures { Puts out.old 0 (waiting_text number before) out.new result × (result ≤ 120) }
+fn put_waiting(text: &mut Text<160>, number: u64, before: u64)
+    requires { length text.old + 120 ≤ 160 }
+    ensures text { text.new ≡ text.old ++ waiting_text number before }
+    ensures size { length text.new ≤ length text.old + 120 }
 {
-    let at = put_bytes(out, 0, b"waiting");
-    let at = put_labelled(out, at, b" block ", number);
-    put_labelled(out, at, b" before ", before)
+    text.put(b"waiting");
+    text.labelled(b" block ", number);
+    text.labelled(b" before ", before);
 }

@@ -1,153 +1,86 @@
-// Text put into a buffer piece by piece: each function answers the place behind what it put.
+// The lines of a chart's text, each put behind the text that there is.
 // Document 01, "Program and values": the two lines, the rows, and the line of a refusal.
-ghost use Rattle.std.specs.Prelude.{◌≡◌, ◌++◌, map, ◌+◌, ◌*◌, ◌^◌, ◌≤◌, ◌<◌, length};
-ghost use Rattle.sheet.specs.Decimal.{digit_at, digit_count, decimal_text};
-ghost use Rattle.sheet.specs.Text.{labelled, line_end, ending_text, run_line, reading_counts, other_counts, count_line, rows_of, refused_text};
-ghost use Rattle.sheet.specs.WritingComputed.{Puts, reading_of, symbol_of};
+ghost use Rattle.std.specs.Prelude.{◌≡◌, ◌++◌, map, ◌+◌, ◌*◌, ◌≤◌, length};
+ghost use Rattle.sheet.specs.Text.{line_end, ending_text, run_line, reading_counts, other_counts, count_line, rows_of, refused_text};
+ghost use Rattle.sheet.specs.ChartComputed.{reading_of, symbol_of};
 
+use crate::text::Text;
 use image::Reading;
-use implicit::{Ending, Tally};
+use implicit::{Ended, Ending, Tally};
 use refusal::{Refusal, number_of};
 
-pub(crate) fn put_bytes(out: &mut [u8], at: usize, text: &[u8]) -> usize
-    requires { at + length text.now ≤ length out.old }
-    ensures { Puts out.old at text.now out.new result }
-{
-    let n = text.len();
-    for i in 0..n {
-        out[at + i] = text[i];
-    }
-    at + n
-}
-
-// A power of ten that a u64 holds.
-fn power(k: usize) -> u64
-    requires { k < 20 }
-    ensures { (result ≡ 10 ^ k) × (1 ≤ result) }
-{
-    let mut r: u64 = 1;
-    for i in 0..k {
-        r = r * 10;
-    }
-    r
-}
-
-// How many digits a number has.
-fn digit_count(n: u64) -> usize
-    ensures { (result ≡ digit_count n) × (result ≤ 20) }
-{
-    for k in 1..20usize {
-        if n < power(k) {
-            return k;
-        }
-    }
-    20
-}
-
-// The digit at a place, counted from the lowest, as a character.
-fn digit(n: u64, k: usize) -> u8
-    requires { k < 20 }
-    ensures { result ≡ digit_at n k }
-{
-    48 + (n / power(k) % 10) as u8
-}
-
-// A number in decimal.
-fn put_number(out: &mut [u8], at: usize, n: u64) -> usize
-    requires { at + 20 ≤ length out.old }
-    ensures { Puts out.old at (decimal_text n) out.new result × (result ≤ at + 20) }
-{
-    let count = digit_count(n);
-    for i in 0..count {
-        out[at + i] = digit(n, count - (i + 1));
-    }
-    at + count
-}
-
-// A short word, then a number.
-pub(crate) fn put_labelled(out: &mut [u8], at: usize, word: &[u8], n: u64) -> usize
-    requires { (length word.now ≤ 12) × (at + 32 ≤ length out.old) }
-    ensures { Puts out.old at (labelled word.now n) out.new result × (result ≤ at + 32) }
-{
-    let at = put_bytes(out, at, word);
-    put_number(out, at, n)
-}
-
 // How a run ended.
-fn put_ending(out: &mut [u8], at: usize, ending: Ending) -> usize
-    requires { at + 32 ≤ length out.old }
-    ensures { Puts out.old at (ending_text ending) out.new result × (result ≤ at + 32) }
+fn put_ending<const N: usize>(text: &mut Text<N>, ending: Ending)
+    requires { length text.old + 32 ≤ N }
+    ensures text { text.new ≡ text.old ++ ending_text ending }
+    ensures size { length text.new ≤ length text.old + 32 }
 {
     match ending {
-        Ending::Done => put_bytes(out, at, b" done"),
-        Ending::Limit => put_bytes(out, at, b" limit"),
-        Ending::More => put_bytes(out, at, b" more"),
-        Ending::Stop(why) => put_labelled(out, at, b" stop ", number_of(why) as u64),
+        Ending::Done => text.put(b" done"),
+        Ending::Limit => text.put(b" limit"),
+        Ending::More => text.put(b" more"),
+        Ending::Stop(why) => text.labelled(b" stop ", u64::from(number_of(why))),
     }
 }
 
 // The line of the run: its size, its steps, its evaluations and its ending.
-pub(crate) fn put_run(
-    out: &mut [u8],
-    at: usize,
-    width: u32,
-    height: u32,
-    steps: u64,
-    evaluations: u64,
-    ending: Ending,
-) -> usize
-    requires { at + 192 ≤ length out.old }
-    ensures { Puts out.old at (run_line width height steps evaluations ending) out.new result × (result ≤ at + 192) }
+#[tactic(auto, unfolding(crate::specs::Text::run_line))]
+pub(crate) fn put_run<const N: usize>(text: &mut Text<N>, end: Ended)
+    requires { length text.old + 192 ≤ N }
+    ensures text { text.new ≡ text.old ++ run_line end.state.chosen.width end.state.chosen.height end.steps end.evaluations end.ending }
+    ensures size { length text.new ≤ length text.old + 192 }
 {
-    let at = put_labelled(out, at, b"size ", width as u64);
-    let at = put_labelled(out, at, b" ", height as u64);
-    let at = put_labelled(out, at, b" steps ", steps);
-    let at = put_labelled(out, at, b" evals ", evaluations);
-    let at = put_ending(out, at, ending);
-    put_bytes(out, at, b"\n")
+    text.labelled(b"size ", u64::from(end.state.chosen.width));
+    text.labelled(b" ", u64::from(end.state.chosen.height));
+    text.labelled(b" steps ", end.steps);
+    text.labelled(b" evals ", end.evaluations);
+    put_ending(text, end.ending);
+    text.put(b"\n");
 }
 
 // The pixels by reading.
-fn put_readings(out: &mut [u8], at: usize, n: Tally) -> usize
-    requires { at + 96 ≤ length out.old }
-    ensures { Puts out.old at (reading_counts n) out.new result × (result ≤ at + 96) }
+#[tactic(auto, unfolding(crate::specs::Text::reading_counts))]
+fn put_readings<const N: usize>(text: &mut Text<N>, n: Tally)
+    requires { length text.old + 96 ≤ N }
+    ensures text { text.new ≡ text.old ++ reading_counts n }
+    ensures size { length text.new ≤ length text.old + 96 }
 {
-    let at = put_labelled(out, at, b"true ", n.trues);
-    let at = put_labelled(out, at, b" false ", n.falses);
-    put_labelled(out, at, b" uncertain ", n.uncertain)
+    text.labelled(b"true ", n.trues);
+    text.labelled(b" false ", n.falses);
+    text.labelled(b" uncertain ", n.uncertain);
 }
 
 // The other counts, to the end of their line.
-fn put_others(out: &mut [u8], at: usize, n: Tally) -> usize
-    requires { at + 128 ≤ length out.old }
-    ensures { Puts out.old at (other_counts n) out.new result × (result ≤ at + 128) }
+#[tactic(auto, unfolding(crate::specs::Text::other_counts))]
+fn put_others<const N: usize>(text: &mut Text<N>, n: Tally)
+    requires { length text.old + 128 ≤ N }
+    ensures text { text.new ≡ text.old ++ other_counts n }
+    ensures size { length text.new ≤ length text.old + 128 }
 {
-    let at = put_labelled(out, at, b" givenup ", n.givenup);
-    let at = put_labelled(out, at, b" queued ", n.queued);
-    let at = put_labelled(out, at, b" share ", n.share);
-    put_bytes(out, at, b"\n")
+    text.labelled(b" givenup ", n.givenup);
+    text.labelled(b" queued ", n.queued);
+    text.labelled(b" share ", n.share);
+    text.put(b"\n");
 }
 
 // The line of the counts.
-pub(crate) fn put_counts(out: &mut [u8], at: usize, n: Tally) -> usize
-    requires { at + 224 ≤ length out.old }
-    ensures { Puts out.old at (count_line n) out.new result × (result ≤ at + 224) }
+pub(crate) fn put_counts<const N: usize>(text: &mut Text<N>, n: Tally)
+    requires { length text.old + 224 ≤ N }
+    ensures text { text.new ≡ text.old ++ count_line n }
+    ensures size { length text.new ≤ length text.old + 224 }
 {
-    let at = put_readings(out, at, n);
-    put_others(out, at, n)
+    put_readings(text, n);
+    put_others(text, n);
 }
 
 // The reading of a picture's byte.
 fn reading_of(b: u8) -> Reading
     ensures { result ≡ reading_of b }
 {
-    if b == 0 {
-        return Reading::False;
-    }
-    if b == 1 {
-        Reading::Uncertain
-    } else {
-        Reading::True
+    match b {
+        0 => Reading::False,
+        1 => Reading::Uncertain,
+        _ => Reading::True,
     }
 }
 
@@ -158,53 +91,45 @@ fn symbol(b: u8) -> u8
     image::reading_character(reading_of(b))
 }
 
-// The characters of some of a picture's bytes.
-fn put_symbols(out: &mut [u8], at: usize, row: &[u8]) -> usize
-    requires { at + length row.now ≤ length out.old }
-    ensures { Puts out.old at (map symbol_of row.now) out.new result }
-{
-    let n = row.len();
-    for i in 0..n {
-        out[at + i] = symbol(row[i]);
-    }
-    at + n
-}
-
 // A row of the picture, with its line end.
-fn put_row(out: &mut [u8], at: usize, row: &[u8]) -> usize
-    requires { at + length row.now + 1 ≤ length out.old }
-    ensures { Puts out.old at (map symbol_of row.now ++ line_end) out.new result }
+fn put_row<const N: usize>(text: &mut Text<N>, row: &[u8])
+    requires { length text.old + length row.now + 1 ≤ N }
+    ensures text { text.new ≡ text.old ++ map symbol_of row.now ++ line_end }
+    ensures size { length text.new ≡ length text.old + (length row.now + 1) }
 {
-    let at = put_symbols(out, at, row);
-    put_bytes(out, at, b"\n")
+    for b in row {
+        text.put(&[symbol(*b)]);
+    }
+    text.put(b"\n");
 }
 
 // All rows of the picture.
-pub(crate) fn put_rows(
-    out: &mut [u8],
-    at: usize,
+#[tactic(auto, using(crate::proofs::RowLaws::row_room), unfolding(crate::specs::Text::rows_of))]
+pub(crate) fn put_rows<const N: usize>(
+    text: &mut Text<N>,
     width: usize,
     height: usize,
     picture: &[u8],
-) -> usize
-    requires { (width * height ≤ length picture.now) × (at + (width + 1) * height ≤ length out.old) }
-    ensures { Puts out.old at (rows_of width height (map symbol_of picture.now)) out.new result × (result ≤ length out.old) }
+)
+    requires picture { width * height ≤ length picture.now }
+    requires room { length text.old + (width + 1) * height ≤ N }
+    ensures { text.new ≡ text.old ++ rows_of width height (map symbol_of picture.now) }
 {
-    let mut at = at;
-    let mut from = 0;
-    for y in 0..height {
-        let end = from + width;
-        at = put_row(out, at, &picture[from..end]);
-        from = end;
+    // `chunks_exact` would ask for a width over 0.
+    let mut rest = picture;
+    for _y in 0..height {
+        let (row, below) = rest.split_at(width);
+        put_row(text, row);
+        rest = below;
     }
-    at
 }
 
 // The line of a refusal.
-pub(crate) fn put_refused(out: &mut [u8], why: Refusal) -> usize
-    requires { 33 ≤ length out.old }
-    ensures { Puts out.old 0 (refused_text why) out.new result × (result ≤ 33) }
+#[tactic(auto, unfolding(crate::specs::Text::refused_text))]
+pub(crate) fn put_refused<const N: usize>(text: &mut Text<N>, why: Refusal)
+    requires { length text.old + 33 ≤ N }
+    ensures { text.new ≡ text.old ++ refused_text why }
 {
-    let at = put_labelled(out, 0, b"refused ", number_of(why) as u64);
-    put_bytes(out, at, b"\n")
+    text.labelled(b"refused ", u64::from(number_of(why)));
+    text.put(b"\n");
 }

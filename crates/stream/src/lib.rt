@@ -28,6 +28,7 @@ pub fn read_full<R: Read>(from: &mut R, buf: &mut [u8]) -> io::Result<usize>
     ensures end { IfOk result (λ n. n < length buf.new → IsAtEnd (R.remaining from.new)) }
     ensures err { OnErr result ((n : ℕ) × (n < length buf.new) × Consumes (R.remaining from.old) (R.remaining from.new) (take n buf.new)) }
 {
+    // `read_exact` takes the stream's end for a failure, and says less of the bytes that it then has read.
     let mut done = 0;
     while done < buf.len() {
         let n = read_more(from, buf, done)?;
@@ -60,6 +61,7 @@ pub fn write_full<W: Write>(to: &mut W, buf: &[u8]) -> io::Result<()>
     ensures ok { OnOk result (Appends (W.contents to.old) (W.contents to.new) buf.now) }
     ensures err { OnErr result ((n : ℕ) × (n < length buf.now) × Appends (W.contents to.old) (W.contents to.new) (take n buf.now)) }
 {
+    // `write_all` says nothing of what a failed write has taken.
     let mut done = 0;
     while done < buf.len() {
         let n = write_more(to, buf, done)?;

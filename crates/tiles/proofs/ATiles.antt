@@ -5,11 +5,10 @@ use mathlib.Core.Bool.{Bool, true, false}
 use mathlib.Core.List.{List, [], ◌∷◌, ◌++◌, map}
 use Prim.Native.Nat.{ℕ}
 use lib.ListN.{replicate}
+use Rattle.std.specs.Prelude.{Option, Some, None}
 use Rattle.base.specs.Lists.{Every}
 use Rattle.image.specs.declared.CellTally.{CellTally}
 use Rattle.image.specs.declared.PixelRange.{PixelRange}
-use Rattle.image.specs.declared.Seen.{Seen}
-use Rattle.image.specs.declared.Seen.TheVariants as S
 use Rattle.image.specs.Cell.{Named, Marked, GivenUp, meaning_of, reading, is_true, is_false, is_uncertain, is_given_up, is_damaged, of_kind, count_of, tallied}
 use Rattle.image.specs.Range.{holds_cell, in_picture, picture_ready, whole_picture}
 use Rattle.image.specs.Painting.{held_cells, some_of, some_seen}
@@ -100,22 +99,22 @@ numbers_computed = (refl, (refl, (refl, (refl, (refl, (refl, tt))))))
 -- DAMAGE
 
 -- 17 by 1: a damaged cell in a column, all others name block 0; asked of the one pixel in column 2
-abbrev damaged_at : ℕ → ℕ → Seen
+abbrev damaged_at : ℕ → ℕ → Option Bool
 damaged_at before behind = touched_damaged 17 1 (rectangle 2 3 0 1) (replicate before 0 ++ 4294967298 ∷ replicate behind 0)
 
-abbrev damage_table : List (Seen × Seen)
+abbrev damage_table : List (Option Bool × Option Bool)
 damage_table =
     -- the pixel's own, and others of its tile, the first and the last
-    (damaged_at 2 14, S.Yes)
-    ∷ (damaged_at 0 16, S.Yes)
-    ∷ (damaged_at 15 1, S.Yes)
+    (damaged_at 2 14, Some true)
+    ∷ (damaged_at 0 16, Some true)
+    ∷ (damaged_at 15 1, Some true)
     -- in the other tile, and beyond the pixels
-    ∷ (damaged_at 16 0, S.No)
-    ∷ (damaged_at 17 0, S.No)
+    ∷ (damaged_at 16 0, Some false)
+    ∷ (damaged_at 17 0, Some false)
     -- a cell too few
-    ∷ (damaged_at 2 13, S.Outside)
+    ∷ (damaged_at 2 13, None)
     ∷ []
 
-pub damage_computed : Every (λ (r : Seen × Seen). r.0 ≡ r.1) damage_table
+pub damage_computed : Every (λ (r : Option Bool × Option Bool). r.0 ≡ r.1) damage_table
 unfolding touched_damaged touched_tiles some_seen some_of of_kind is_damaged held_cells holds_cell picture_ready in_picture meaning_of
 damage_computed = (refl, (refl, (refl, (refl, (refl, (refl, tt))))))

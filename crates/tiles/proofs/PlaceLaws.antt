@@ -2,7 +2,7 @@
 -- in them. Assumes nothing.
 use mathlib.Core.Path.{◌≡◌, refl, sym, ap, ap₂, ◌∙◌}
 use mathlib.Core.Logic.{◌↔◌}
-use mathlib.Core.Bool.{Bool, true, false, ◌&&◌, true≢false, false≢true}
+use mathlib.Core.Bool.{Bool, true, false, ◌&&◌, true≢false}
 use mathlib.Core.List.{List}
 use Prim.Native.Nat.{ℕ, ◌+◌, ◌*◌, ◌/◌, ◌%◌, ◌≤◌, ◌<◌, max}
 use native.Mathlib.Decide.{dec_lt}
@@ -12,13 +12,13 @@ use lib.Arith.{digits_lt, digits_div, digits_mod}
 use lib.Dec.{leb}
 use lib.ListN.{length, get_or, length-map}
 use borrow.Author.Tests.{leb-true, lt-ltb, le-leb}
+use Rattle.std.specs.Prelude.{Some, None}
 use Rattle.base.proofs.Test.{cases, and_right, and_both, both_ways}
 use Rattle.image.specs.declared.CellKind.TheVariants as K
 use Rattle.image.specs.declared.PixelRange.{PixelRange}
-use Rattle.image.specs.declared.Seen.TheVariants as S
 use Rattle.image.specs.Cell.{Named, meanings, meaning_of, is_damaged, of_kind}
 use Rattle.image.specs.Range.{holds_cell, in_picture, picture_ready, whole_picture}
-use Rattle.image.specs.Painting.{held_cells, some_of, seen_if}
+use Rattle.image.specs.Painting.{held_cells, some_of}
 use Rattle.image.proofs.RangeLaws.{held, holding, not_held, within, in_picture_lem, beyond_not_held, whole_holds}
 use Rattle.image.proofs.CountLaws.{seen_answered}
 use Rattle.tiles.specs.Tiles.{tiles_along, tile_count, tile_at, meets, touches, touched_tiles, touched_damaged}
@@ -169,9 +169,8 @@ tile_pixel width height i j h =
 
 -- DAMAGE
 
-seen_yes : (b : Bool) → (seen_if b ≡ S.Yes) ↔ (b ≡ true)
-seen_yes true = ((λ e. refl), (λ e. refl))
-seen_yes false = ((λ e. (let z : ◌≡◌ {A = ℕ} 0 1 = cc in absurd (omega arith))), (λ e. absurd (false≢true e)))
+seen_yes : (b : Bool) → (Some b ≡ Some true) ↔ (b ≡ true)
+seen_yes b = ((λ e. cc), ap Some)
 
 module _ (width height : ℕ) (r : PixelRange) (l : List ℕ) (e : picture_ready width height r (length l) ≡ true) where
   -- every pixel has a cell
@@ -186,7 +185,7 @@ module _ (width height : ℕ) (r : PixelRange) (l : List ℕ) (e : picture_ready
       (touched_in_picture width height r (ready_in width height r (length l) e)) (le-leb (width * height) (length l) enough)
 
   -- the answer is one of two
-  damage_answer : touched_damaged width height r l ≡ seen_if (some_of is_damaged (held_cells width (touched_tiles width height r) (meanings l)))
+  damage_answer : touched_damaged width height r l ≡ Some (some_of is_damaged (held_cells width (touched_tiles width height r) (meanings l)))
   unfolding of_kind
   damage_answer =
       damage_seen width height r l e
@@ -195,7 +194,7 @@ module _ (width height : ℕ) (r : PixelRange) (l : List ℕ) (e : picture_ready
 
   -- it is yes exactly if a pixel whose tile is touched has a damaged cell
   pub damage_place : r.left < r.right → r.top < r.bottom
-      → (touched_damaged width height r l ≡ S.Yes)
+      → (touched_damaged width height r l ≡ Some true)
       ↔ ((i : ℕ) × (i < width * height) × (touches width height r (tile_of width i) ≡ true) × (is_damaged (get_or (meanings l) i (Named 0)) ≡ true))
   damage_place a d =
       let inside = ready_in width height r (length l) e in
@@ -220,7 +219,7 @@ module _ (width height : ℕ) (r : PixelRange) (l : List ℕ) (e : picture_ready
 
 -- it is neither yes nor no exactly if the rectangle leaves the picture, or a pixel has no cell
 pub damage_out : (width height : ℕ) (r : PixelRange) (l : List ℕ)
-    → (touched_damaged width height r l ≡ S.Outside) ↔ (picture_ready width height r (length l) ≡ false)
+    → (touched_damaged width height r l ≡ None) ↔ (picture_ready width height r (length l) ≡ false)
 damage_out width height r l = (
   (λ out.
       cases (picture_ready width height r (length l))
@@ -229,6 +228,5 @@ damage_out width height r l = (
   (λ e. damage_outside width height r l e),
 )
   where
-    never : (b : Bool) → seen_if b ≡ S.Outside → ⊥
-    never true e = let z : ◌≡◌ {A = ℕ} 0 1 = cc in omega arith
-    never false e = let z : ◌≡◌ {A = ℕ} 0 1 = cc in omega arith
+    never : (b : Bool) → Some b ≡ None → ⊥
+    never b e = cc

@@ -9,12 +9,10 @@ use lib.Arith.{digits_lt, digits_div, digits_mod}
 use lib.Dec.{leb, ltb, eqb}
 use lib.ListN.{length, take, drop, length-append, length-take, length-drop, length-map}
 use borrow.Author.Tests.{ltb-true, lt-ltb, le-leb, eqb-true}
+use Rattle.std.specs.Prelude.{Option, Some, None}
 use Rattle.base.proofs.Test.{cases, cond_yes, cond_no, and_left, and_right, and_both, both_ways}
 use Rattle.image.specs.declared.CellKind.TheVariants as K
 use Rattle.image.specs.declared.CellTally.{CellTally}
-use Rattle.image.specs.declared.CellTallyAnswer.{CellTallyAnswer}
-use Rattle.image.specs.declared.CellTallyAnswer.TheVariants as A
-use Rattle.image.specs.declared.Seen.TheVariants as S
 use Rattle.image.specs.declared.PixelRange.{PixelRange}
 use Rattle.image.specs.Cell.{Cell, meanings, meaning_of, reading, is_true, is_false, is_uncertain, is_given_up, tallied}
 use Rattle.image.specs.Range.{holds_cell, in_picture, picture_ready, whole_picture}
@@ -212,25 +210,22 @@ tile_adds width height taken i l h e =
     some (suc m) n i h = omega arith
 
 -- what the count of its rectangle answers: its numbers
-tile_answer : (width height column row taken : ℕ) (l : List ℕ) (tile : PixelRange) (a : CellTallyAnswer)
+tile_answer : (width height column row taken : ℕ) (l : List ℕ) (tile : PixelRange) (a : Option CellTally)
     → column < tiles_along width → row < tiles_along height → width * height ≤ length l → tile ≡ tile_in width height column row
-    → a ≡ tally_answer width height tile taken l → a ≡ A.Of (tallied taken (held_cells width (tile_in width height column row) (meanings l)))
+    → a ≡ tally_answer width height tile taken l → a ≡ Some (tallied taken (held_cells width (tile_in width height column row) (meanings l)))
 tile_answer width height column row taken l tile a h k e f g =
     g ∙ ap (λ (t : PixelRange). tally_answer width height t taken l) f
     ∙ tally_answered width height (tile_in width height column row) taken l (tile_ready width height column row (length l) h k e)
 
-pub tile_counted : (width height column row taken : ℕ) (l : List ℕ) (tile : PixelRange) (a : CellTallyAnswer) (t : CellTally)
+pub tile_counted : (width height column row taken : ℕ) (l : List ℕ) (tile : PixelRange) (a : Option CellTally) (t : CellTally)
     → column < tiles_along width → row < tiles_along height → width * height ≤ length l → tile ≡ tile_in width height column row
-    → a ≡ tally_answer width height tile taken l → a ≡ A.Of t → t ≡ tallied taken (held_cells width (tile_in width height column row) (meanings l))
+    → a ≡ tally_answer width height tile taken l → a ≡ Some t → t ≡ tallied taken (held_cells width (tile_in width height column row) (meanings l))
 tile_counted width height column row taken l tile a t h k e f g o = let u = tile_answer width height column row taken l tile a h k e f g in cc
 
-pub never_outside : (width height column row taken : ℕ) (l : List ℕ) (tile : PixelRange) (a : CellTallyAnswer)
+pub never_outside : (width height column row taken : ℕ) (l : List ℕ) (tile : PixelRange) (a : Option CellTally)
     → column < tiles_along width → row < tiles_along height → width * height ≤ length l → tile ≡ tile_in width height column row
-    → a ≡ tally_answer width height tile taken l → a ≡ A.Outside → ⊥
-never_outside width height column row taken l tile a h k e f g o =
-    let u = tile_answer width height column row taken l tile a h k e f g in
-    let z : ◌≡◌ {A = ℕ} 0 1 = cc in
-    omega arith
+    → a ≡ tally_answer width height tile taken l → a ≡ None → ⊥
+never_outside width height column row taken l tile a h k e f g o = let u = tile_answer width height column row taken l tile a h k e f g in cc
 
 -- by its number
 pub tile_numbered : (width height column row taken : ℕ) (l : List Cell) → column < tiles_along width
@@ -244,7 +239,7 @@ unfolding picture_ready
 ready_in width height r n t = and_left (in_picture width height r) (leb (width * height) n) t
 
 pub damage_outside : (width height : ℕ) (r : PixelRange) (l : List ℕ) → picture_ready width height r (length l) ≡ false
-    → touched_damaged width height r l ≡ S.Outside
+    → touched_damaged width height r l ≡ None
 unfolding touched_damaged
 damage_outside width height r l e = cond_no (picture_ready width height r (length l)) _ _ e
 

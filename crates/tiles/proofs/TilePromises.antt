@@ -10,8 +10,8 @@ use mathlib.Core.Bool.{true, false}
 use mathlib.Core.List.{List}
 use Prim.Native.Nat.{ℕ, ◌+◌, ◌-◌, ◌*◌, ◌/◌, ◌%◌, ◌≤◌, ◌<◌}
 use lib.ListN.{length, get_or}
+use Rattle.std.specs.Prelude.{Some, None}
 use Rattle.image.specs.declared.PixelRange.{PixelRange}
-use Rattle.image.specs.declared.Seen.TheVariants as S
 use Rattle.image.specs.Cell.{Named, meanings, is_damaged}
 use Rattle.image.specs.Range.{holds_cell, in_picture, picture_ready}
 use Rattle.tiles.specs.Tiles.{tiles_along, tile_count, tile_at, touches, touched_tiles, touched_damaged, tile_tally}
@@ -49,11 +49,11 @@ touched_cells width height r i inside across down h = let e = touched_holds widt
 
 -- damage is seen exactly if a cell in a touched tile is damaged,
 pub touched_damage : (width height : ℕ) (r : PixelRange) (l : List ℕ) → picture_ready width height r (length l) ≡ true → r.left < r.right → r.top < r.bottom
-    → (touched_damaged width height r l ≡ S.Yes)
+    → (touched_damaged width height r l ≡ Some true)
     ↔ ((i : ℕ) × (i < width * height) × (touches width height r (tile_of width i) ≡ true) × (is_damaged (get_or (meanings l) i (Named 0)) ≡ true))
 touched_damage = damage_place
 
 -- and else it is not, but where the rectangle leaves the picture or a pixel has no cell: there, and only there, the answer is neither
 pub touched_outside : (width height : ℕ) (r : PixelRange) (l : List ℕ)
-    → (touched_damaged width height r l ≡ S.Outside) ↔ (picture_ready width height r (length l) ≡ false)
+    → (touched_damaged width height r l ≡ None) ↔ (picture_ready width height r (length l) ≡ false)
 touched_outside = damage_out

@@ -9,12 +9,10 @@
 --   +---------+--------+
 --   | tile 2  | tile 3 | 16 .. 17
 --   +---------+--------+
-use Rattle.std.specs.Prelude.{Bool, cond, ◌&&◌, List, ℕ, ◌+◌, ◌*◌, ◌/◌, ◌%◌, min, max, leb, ltb, eqb, length}
+use Rattle.std.specs.Prelude.{Bool, cond, ◌&&◌, List, ℕ, ◌+◌, ◌*◌, ◌/◌, ◌%◌, min, max, leb, ltb, eqb, length, Option, None}
 use Rattle.image.specs.declared.CellKind.TheVariants as K
 use Rattle.image.specs.declared.CellTally.{CellTally}
 use Rattle.image.specs.declared.PixelRange.{PixelRange}
-use Rattle.image.specs.declared.Seen.{Seen}
-use Rattle.image.specs.declared.Seen.TheVariants as S
 use Rattle.image.specs.Cell.{Cell, meanings, tallied}
 use Rattle.image.specs.Range.{picture_ready}
 use Rattle.image.specs.Painting.{map_at, held_cells, some_seen}
@@ -55,9 +53,9 @@ touched_tiles width height r = record {
 }
 
 -- does a touched tile hold a damaged cell? Of a rectangle with a pixel in the picture
-unfoldable pub touched_damaged : ℕ → ℕ → PixelRange → List ℕ → Seen
+unfoldable pub touched_damaged : ℕ → ℕ → PixelRange → List ℕ → Option Bool
 touched_damaged width height r l =
-    cond (picture_ready width height r (length l)) (some_seen width height (touched_tiles width height r) K.Damaged l) S.Outside
+    cond (picture_ready width height r (length l)) (some_seen width height (touched_tiles width height r) K.Damaged l) None
 
 -- the pixels of the i-th tile by what they read when so many blocks have been taken, and those that are given up
 abbrev pub tile_tally : ℕ → ℕ → ℕ → List Cell → ℕ → CellTally

@@ -6,10 +6,10 @@ ghost use Rattle.image.specs.Range.{in_stretch, holds_cell, in_picture};
 ghost use Rattle.tiles.specs.Tiles.{tiles_along, recounted_where};
 ghost use Rattle.tiles.specs.TilesComputed.{TilesReady, SmallNumbers, tile_in, numbers_put};
 
-use crate::{smaller, tiles_along};
-use image::{CellTally, CellTallyAnswer, PixelRange};
+use crate::tiles_along;
+use image::{CellTally, PixelRange};
 
-// Counts rows of tiles.
+// Counts rows of tiles, by their numbers, which make the tiles' places.
 pub(crate) fn recount_rows(
     cells: &[u64],
     width: u32,
@@ -31,7 +31,7 @@ pub(crate) fn recount_rows(
     }
 }
 
-// Counts the tiles of a row, from one column to another.
+// Counts the tiles of a row, from one column to another, by their numbers too.
 fn recount_row(
     cells: &[u64],
     width: u32,
@@ -53,7 +53,7 @@ fn recount_row(
     }
 }
 
-// Counts a tile.
+// Counts a tile. Cells and sides come one by one, since `count` takes them so: a struct of them would be taken apart here.
 fn recount_tile(
     cells: &[u64],
     width: u32,
@@ -70,7 +70,7 @@ fn recount_tile(
 {
     let tile = tile_in(width as usize, height as usize, column, row);
     let at = 4 * (row * tiles_along(width as usize) + column);
-    let CellTallyAnswer::Of(tally) = image::count(cells, width, height, tile, taken) else {
+    let Some(tally) = image::count(cells, width, height, tile, taken) else {
         return;
     };
     put_numbers(table, at, tally);
@@ -83,9 +83,9 @@ fn tile_in(width: usize, height: usize, column: usize, row: usize) -> PixelRange
 {
     PixelRange {
         left: 16 * column,
-        right: smaller(16 * column + 16, width),
+        right: (16 * column + 16).min(width),
         top: 16 * row,
-        bottom: smaller(16 * row + 16, height),
+        bottom: (16 * row + 16).min(height),
     }
 }
 

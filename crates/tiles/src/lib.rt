@@ -5,13 +5,13 @@
 #![tactic(auto)]
 
 ghost use Rattle.std.specs.Prelude.{◌≡◌, true, ◌||◌, ◌<◌, min, eqb, length};
-ghost use Rattle.image.specs.Range.{in_picture, picture_ready};
+ghost use Rattle.image.specs.Range.{in_picture};
 ghost use Rattle.tiles.specs.Tiles.{tiles_along, tile_count, touched_tiles, touched_damaged, recountable, table_recounted};
 ghost use Rattle.tiles.specs.TilesComputed.{tiles_of};
 
 mod counting;
 
-use image::{CellKind, PixelRange, Seen};
+use image::{CellKind, PixelRange};
 
 // How many tiles a picture has: the table has four numbers for each.
 pub fn tile_count(width: u32, height: u32) -> usize
@@ -21,11 +21,11 @@ pub fn tile_count(width: u32, height: u32) -> usize
 }
 
 // Whether a tile that the rectangle touches holds a damaged cell. A rectangle without a pixel is rounded out to whole tiles all the same.
-pub fn holds_damage(cells: &[u64], width: u32, height: u32, r: PixelRange) -> Seen
+pub fn holds_damage(cells: &[u64], width: u32, height: u32, r: PixelRange) -> Option<bool>
     ensures { result ≡ touched_damaged width height r cells.now }
 {
-    if !is_ready(width, height, r, cells.len()) {
-        return Seen::Outside;
+    if !image::is_ready(width, height, r, cells.len()) {
+        return None;
     }
     let rounded = rounded_out(width as usize, height as usize, r);
     image::tile_holds(cells, width, height, rounded, CellKind::Damaged)
@@ -62,29 +62,11 @@ fn tiles_along(side: usize) -> usize
     (side + 15) / 16
 }
 
-// The smaller of two.
-fn smaller(a: usize, b: usize) -> usize
-    ensures { result ≡ min a b }
-{
-    if a <= b { a } else { b }
-}
-
-// Whether the rectangle lies in the picture and every pixel has a cell.
-fn is_ready(width: u32, height: u32, r: PixelRange, count: usize) -> bool
-    ensures { result ≡ picture_ready width height r count }
-{
-    (r.left <= r.right)
-        & (r.right <= width as usize)
-        & (r.top <= r.bottom)
-        & (r.bottom <= height as usize)
-        & (width as usize * height as usize <= count)
-}
-
-// And every tile its four numbers.
+// Whether the rectangle lies in the picture, every pixel has a cell and every tile its four numbers.
 fn is_recountable(width: u32, height: u32, r: PixelRange, count: usize, room: usize) -> bool
     ensures { result ≡ recountable width height r count room }
 {
-    is_ready(width, height, r, count) & (4 * tile_count(width, height) <= room)
+    image::is_ready(width, height, r, count) & (4 * tile_count(width, height) <= room)
 }
 
 // Whether the rectangle, which lies in the picture, has no pixel.
@@ -101,9 +83,9 @@ fn rounded_out(width: usize, height: usize, r: PixelRange) -> PixelRange
 {
     PixelRange {
         left: 16 * (r.left / 16),
-        right: smaller(16 * tiles_along(r.right), width),
+        right: (16 * tiles_along(r.right)).min(width),
         top: 16 * (r.top / 16),
-        bottom: smaller(16 * tiles_along(r.bottom), height),
+        bottom: (16 * tiles_along(r.bottom)).min(height),
     }
 }
 

@@ -16,28 +16,25 @@ use lib.ListN.{length, get_or}
 use lib.Ieee.{Float, nan, inf, fin, is_nan, le, lt, eq}
 use borrow.Author.Tests.{le-leb, lt-leb, lt-ltb, le-ltb}
 use Rattle.base.proofs.Test.{cases, and_left, and_right, and_both}
+use Rattle.std.specs.Prelude.{Result, Ok, Err}
+use Rattle.refusal.specs.declared.Refusal.{Refusal}
 use Rattle.refusal.specs.declared.Refusal.TheVariants as R
-use Rattle.refusal.specs.declared.Whether.TheVariants as W
-use Rattle.refusal.specs.Number.{answered, whether_number}
-use Rattle.small.specs.declared.ReadAnswer.{ReadAnswer}
+use Rattle.refusal.specs.Number.{answer_number}
+use Rattle.small.specs.declared.Number.{Number}
 use Rattle.small.specs.Small.{code_of, code_with}
-use Rattle.small.specs.Answers.{code_number, read_number}
 use Rattle.small.proofs.Writing.{tail_takes, code_refuses}
 use Rattle.small.proofs.Reading.{by_read}
 use Rattle.coordinate.specs.declared.Coordinate.{Coordinate}
-use Rattle.coordinate.specs.declared.PixelAnswer.TheVariants as P
-use Rattle.coordinate.specs.declared.HalvesAnswer.TheVariants as H
+use Rattle.coordinate.specs.declared.Halves.{Halves}
 use Rattle.coordinate.specs.Axis.{level, ordinary_floor, in_range, pixel, above_floor, inside}
 use Rattle.coordinate.specs.Lone.{legal, low_half, high_half, pixel_asked, halves_asked, subdivisible_asked, inside_asked}
-use Rattle.coordinate.specs.Answers.{pixel_number, halves_number}
 use Rattle.coordinate.proofs.PixelLaws.{ranged, low_in_range}
 use Rattle.interval.specs.declared.Interval.{Interval}
-use Rattle.interval.specs.declared.BitsAnswer.TheVariants as B
 use Rattle.interval.specs.Bounds.{InFormat, whole_bound, legal_bounds, legal_interval, put_interval}
 use Rattle.interval.specs.Kinds.{midpoint_of, cut_point_of}
 use Rattle.interval.specs.Cuts.{subdivisible, first_cut, later_cut}
 use Rattle.interval.specs.Fraction.{simple_fraction}
-use Rattle.interval.specs.Answers.{point_answer, whether_at, pieces_from, pieces_at, bounds_from, answer_from_bits, point_number, pieces_number, from_bits_number}
+use Rattle.interval.specs.Answers.{point_answer, whether_at, pieces_from, pieces_at, bounds_from, answer_from_bits}
 use Rattle.interval.proofs.Legality.{legal_bounds_lem, whole_ends, legal_from, put_legal}
 use Rattle.interval.proofs.ProperPieces.{Few, put_format}
 use Rattle.interval.proofs.CutAnswers.{first_good, later_good}
@@ -55,14 +52,14 @@ given (inr (fails, z)) = ((λ e. absurd (omega (arith, z)), λ h. absurd (fails 
 
 -- ---- SMALL NUMBERS
 
-has_code : (x : ℕ) → x < 2 ^ 56 → code_number (code_of x) ≡ 0
+has_code : (x : ℕ) → x < 2 ^ 56 → answer_number (code_of x) ≡ 0
 unfolding code_of
-has_code x h = let (z, e, r) = tail_takes x h in ap (λ t. code_number (code_with x t)) e
+has_code x h = let (z, e, r) = tail_takes x h in ap (λ t. answer_number (code_with x t)) e
 
 -- 9: "number to code over 2^56 - 1"
 pub write_nine : (x : ℕ) → GivenExactlyIf 9 (write_says x).0 (2 ^ 56 - 1 < x)
 write_nine x = elim (dec_lt (2 ^ 56 - 1) x) [
-  | yes h ↦ given (inl (h, ap code_number (code_refuses x (omega arith))))
+  | yes h ↦ given (inl (h, ap answer_number (code_refuses x (omega arith))))
   | no h ↦ given (inr (h, has_code x (omega arith)))
 ]
 
@@ -76,7 +73,7 @@ HeadIsZero s = (0 < length s) × (get_or s 0 0 ≡ 0)
 -- 10: "a code's bytes end early"
 pub read_ten : (s : List ℕ) → ((read_says s).0 ≡ 10) ↔ Ended s
 read_ten s =
-    by_read (λ (r : ReadAnswer). (read_number r ≡ 10) ↔ Ended s) s
+    by_read (λ (r : Result Number Refusal). (answer_number r ≡ 10) ↔ Ended s) s
     (λ n. (λ e. inl n, λ h. refl))
     (λ n z. (λ e. absurd (omega arith), ⊎_elim (λ k. absurd (n k)) (λ k. absurd (k.0 z))))
     (λ n k. (λ e. inr (n, k), λ h. refl))
@@ -85,7 +82,7 @@ read_ten s =
 -- 11: "head byte 0"
 pub read_eleven : (s : List ℕ) → ((read_says s).0 ≡ 11) ↔ HeadIsZero s
 read_eleven s =
-    by_read (λ (r : ReadAnswer). (read_number r ≡ 11) ↔ HeadIsZero s) s
+    by_read (λ (r : Result Number Refusal). (answer_number r ≡ 11) ↔ HeadIsZero s) s
     (λ n. (λ e. absurd (omega arith), λ h. absurd (omega (arith, h.0))))
     (λ n z. (λ e. (omega (arith, n), z), λ h. refl))
     (λ n k. (λ e. absurd (omega arith), λ h. absurd (n h.1)))
@@ -94,7 +91,7 @@ read_eleven s =
 -- and a number is read exactly if neither holds
 pub read_zero : (s : List ℕ) → ((read_says s).0 ≡ 0) ↔ ((¬ Ended s) × (¬ HeadIsZero s))
 read_zero s =
-    by_read (λ (r : ReadAnswer). (read_number r ≡ 0) ↔ ((¬ Ended s) × (¬ HeadIsZero s))) s
+    by_read (λ (r : Result Number Refusal). (answer_number r ≡ 0) ↔ ((¬ Ended s) × (¬ HeadIsZero s))) s
     (λ n. (λ e. absurd (omega arith), λ h. absurd (h.0 (inl n))))
     (λ n z. (λ e. absurd (omega arith), λ h. absurd (h.1 (omega (arith, n), z))))
     (λ n k. (λ e. absurd (omega arith), λ h. absurd (h.0 (inr (n, k)))))
@@ -159,27 +156,23 @@ refused_unless x integer n done refused = go (legal_interval x integer) refl
 
 -- 3: "a lone interval handed in isn't legal", of the midpoint
 pub midpoint_three : (x : Interval) → GivenExactlyIf 3 (midpoint_says x).0 (¬ IsInterval x false)
-midpoint_three x = refused_unless x false (λ t. point_number (point_answer t (midpoint_of (put_interval x)))) (λ _. refl) refl
+midpoint_three x = refused_unless x false (λ t. answer_number (point_answer t (midpoint_of (put_interval x)))) (λ _. refl) refl
 
 -- of the simple fraction
 pub fraction_three : (x : Interval) → GivenExactlyIf 3 (fraction_says x).0 (¬ IsInterval x false)
-fraction_three x = refused_unless x false (λ t. point_number (point_answer t (simple_fraction (put_interval x).lower (put_interval x).upper))) (λ _. refl) refl
+fraction_three x = refused_unless x false (λ t. answer_number (point_answer t (simple_fraction (put_interval x).lower (put_interval x).upper))) (λ _. refl) refl
 
 -- of the cut point
 pub cut_point_three : (x : Interval) (integer : Bool) → GivenExactlyIf 3 (cut_point_says integer x).0 (¬ IsInterval x integer)
-cut_point_three x integer = refused_unless x integer (λ t. point_number (point_answer t (cut_point_of (put_interval x) integer))) (λ _. refl) refl
-
-yes_or_no : (b : Bool) → whether_number (answered b) ≡ 0
-yes_or_no true = refl
-yes_or_no false = refl
+cut_point_three x integer = refused_unless x integer (λ t. answer_number (point_answer t (cut_point_of (put_interval x) integer))) (λ _. refl) refl
 
 -- of the question whether it is subdivisible
 pub divisible_three : (x : Interval) (integer : Bool) → GivenExactlyIf 3 (divisible_says integer x).0 (¬ IsInterval x integer)
 divisible_three x integer =
     let b = subdivisible (put_interval x) integer in
-    refused_unless x integer (λ t. whether_number (whether_at t b)) (λ _. yes_or_no b) refl
+    refused_unless x integer (λ t. answer_number (whether_at t b)) (λ _. refl) refl
 
-some_pieces : (l : List Interval) → Few l → pieces_number (pieces_from l) ≡ 0
+some_pieces : (l : List Interval) → Few l → answer_number (pieces_from l) ≡ 0
 some_pieces [] h = absurd h
 some_pieces (p ∷ []) h = refl
 some_pieces (p ∷ q ∷ []) h = refl
@@ -189,14 +182,14 @@ some_pieces (p ∷ q ∷ r ∷ l) h = refl
 pub first_cut_three : (x : Interval) (integer : Bool) → InFormat x → GivenExactlyIf 3 (first_cut_says integer x).0 (¬ IsInterval x integer)
 first_cut_three x integer f =
     let l = first_cut (put_interval x) integer in
-    refused_unless x integer (λ t. pieces_number (pieces_at t l))
+    refused_unless x integer (λ t. answer_number (pieces_at t l))
     (λ h. some_pieces l (first_good (put_interval x) integer (put_format x f) (put_legal x integer ∙ h)).few) refl
 
 -- of the later cut, of f64s
 pub later_cut_three : (x : Interval) (integer : Bool) → InFormat x → GivenExactlyIf 3 (later_cut_says integer x).0 (¬ IsInterval x integer)
 later_cut_three x integer f =
     let l = later_cut (put_interval x) integer in
-    refused_unless x integer (λ t. pieces_number (pieces_at t l))
+    refused_unless x integer (λ t. answer_number (pieces_at t l))
     (λ h. some_pieces l (later_good (put_interval x) integer (put_format x f) (put_legal x integer ∙ h)).few) refl
 
 -- and of an interval's bit patterns
@@ -204,7 +197,7 @@ pub from_bits_three : (a b : ℕ) (integer : Bool) → GivenExactlyIf 3 (from_bi
 unfolding answer_from_bits
 from_bits_three a b integer =
     let x = bounds_from a b in
-    refused_unless x integer (λ t. from_bits_number (cond t (B.Bounds (put_interval x)) (B.Refused R.Parameter))) (λ _. refl) refl
+    refused_unless x integer (λ t. answer_number (cond t (Ok (put_interval x)) (Err R.Parameter))) (λ _. refl) refl
 
 -- ---- COORDINATES
 
@@ -239,21 +232,21 @@ refused_outside c n done refused = go (legal ordinary_floor c) refl
 -- 8: "a lone coordinate ... outside the ranges for index and level", of the pixel
 pub pixel_eight : (c : Coordinate) → GivenExactlyIf 8 (pixel_says c).0 (in_ranges c ≡ false)
 unfolding pixel_asked
-pixel_eight c = refused_outside c (λ t. pixel_number (cond t (P.At (pixel c.rank c.index)) (P.Refused R.Damaged))) refl refl
+pixel_eight c = refused_outside c (λ t. answer_number (cond t (Ok (pixel c.rank c.index)) (Err R.Damaged))) refl refl
 
 -- of the question whether it is subdivisible
 pub halvable_eight : (c : Coordinate) → GivenExactlyIf 8 (halvable_says c).0 (in_ranges c ≡ false)
 unfolding subdivisible_asked
 halvable_eight c =
     let b = above_floor ordinary_floor c.rank in
-    refused_outside c (λ t. whether_number (cond t (answered b) (W.Refused R.Damaged))) (yes_or_no b) refl
+    refused_outside c (λ t. answer_number (cond t (Ok b) (Err R.Damaged))) refl refl
 
 -- of the question whether it begins inside a side
 pub inside_eight : (c : Coordinate) (side : ℕ) → GivenExactlyIf 8 (inside_says c side).0 (in_ranges c ≡ false)
 unfolding inside_asked
 inside_eight c side =
     let b = inside side c.rank c.index in
-    refused_outside c (λ t. whether_number (cond t (answered b) (W.Refused R.Damaged))) (yes_or_no b) refl
+    refused_outside c (λ t. answer_number (cond t (Ok b) (Err R.Damaged))) refl refl
 
 -- one of the coordinate and its halves is outside
 abbrev pub SomeOutside : Coordinate → Type 0
@@ -289,6 +282,6 @@ unfolding halves_asked
 halves_eight c = go (legal ordinary_floor c && (above_floor ordinary_floor c.rank && legal ordinary_floor (high_half c))) refl
   where
     go : (t : Bool) → legal ordinary_floor c && (above_floor ordinary_floor c.rank && legal ordinary_floor (high_half c)) ≡ t
-        → GivenExactlyIf 8 (halves_number (cond t (H.Halves (low_half c) (high_half c)) (H.Refused R.Damaged))) (SomeOutside c)
+        → GivenExactlyIf 8 (answer_number {A = Halves} (cond t (Ok (record { low = low_half c; high = high_half c })) (Err R.Damaged))) (SomeOutside c)
     go true e = given (inr (none_outside c e, refl))
     go false e = given (inl (some_outside c e, refl))

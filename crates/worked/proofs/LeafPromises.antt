@@ -14,29 +14,27 @@ use borrow.Author.Tests.{ltb-true, le-leb, lt-ltb}
 use Rattle.base.specs.Bytes.{little_endian}
 use Rattle.base.proofs.Test.{and_both, cond_yes}
 use Rattle.base.specs.Lists.{Every}
+use Rattle.std.specs.Prelude.{Result, Ok, Err}
+use Rattle.refusal.specs.declared.Refusal.{Refusal}
 use Rattle.refusal.specs.declared.Refusal.TheVariants as R
-use Rattle.refusal.specs.declared.Whether.TheVariants as W
-use Rattle.refusal.specs.Number.{answered, whether_number, whether_value}
-use Rattle.small.specs.declared.ReadAnswer.{ReadAnswer}
+use Rattle.refusal.specs.Number.{answer_number, whether_value}
+use Rattle.small.specs.declared.Number.{Number}
 use Rattle.small.specs.Small.{small_code, long_code}
-use Rattle.small.specs.Answers.{read_number, read_value, read_count}
+use Rattle.small.specs.Answers.{read_value, read_count}
 use Rattle.small.proofs.Writing.{length_long, length_upto}
 use Rattle.small.proofs.Reading.{read_long, read_written, read_first}
 use Rattle.coordinate.specs.declared.Coordinate.{Coordinate}
-use Rattle.coordinate.specs.declared.PixelAnswer.{PixelAnswer}
-use Rattle.coordinate.specs.declared.PixelAnswer.TheVariants as P
-use Rattle.coordinate.specs.declared.HalvesAnswer.TheVariants as H
+use Rattle.coordinate.specs.declared.Halves.{Halves}
 use Rattle.coordinate.specs.Axis.{level, ordinary_floor, in_range, pixel_at_level, pixel, above_floor, inside}
 use Rattle.coordinate.specs.Lone.{legal, low_half, high_half, pixel_asked, halves_asked, subdivisible_asked, inside_asked}
-use Rattle.coordinate.specs.Answers.{pixel_number, pixel_value, halves_number}
+use Rattle.coordinate.specs.Answers.{pixel_value}
 use Rattle.coordinate.proofs.PixelLaws.{ranged, pixel_level, inside_pixel}
 use Rattle.interval.specs.declared.Interval.{Interval}
-use Rattle.interval.specs.declared.BitsAnswer.{BitsAnswer}
 use Rattle.interval.specs.Bounds.{InFormat, in_units, whole_bound, legal_interval, put_interval, same_interval}
 use Rattle.interval.specs.Kinds.{midpoint_of, cut_point_of}
 use Rattle.interval.specs.Cuts.{subdivisible, first_cut, later_cut}
 use Rattle.interval.specs.Fraction.{simple_fraction}
-use Rattle.interval.specs.Answers.{point_answer, whether_at, pieces_at, point_number, point_value, pieces_number, pieces_of, from_bits_number, from_bits_value}
+use Rattle.interval.specs.Answers.{point_answer, whether_at, pieces_at, point_value, pieces_of, from_bits_value}
 use Rattle.interval.proofs.Zeros.{as_le_left, as_le_right}
 use Rattle.interval.proofs.Legality.{put_again, put_legal}
 use Rattle.interval.proofs.Sameness.{same_put, same_is}
@@ -114,8 +112,8 @@ later_pieces x integer f h =
 -- ---- CODES
 
 -- what an answer of the reader says
-abbrev said : ReadAnswer → ℕ × ℕ × ℕ
-said r = (read_number r, read_value r, read_count r)
+abbrev said : Result Number Refusal → ℕ × ℕ × ℕ
+said r = (answer_number r, read_value r, read_count r)
 
 -- "longer codes than needed are read", whatever follows them
 pub longer_read : (z x : ℕ) (rest : List ℕ) → z ≤ 7 → x < 2 ^ (7 * (z + 1)) → read_says (long_code z x ++ rest) ≡ (0, x, z + 1)
@@ -146,12 +144,12 @@ pub zeros_alike : (x : Interval) (integer : Bool)
     × (first_cut_says integer (put_interval x) ≡ first_cut_says integer x)
     × (later_cut_says integer (put_interval x) ≡ later_cut_says integer x)
 zeros_alike x integer = (
-  alike (λ t y. let a = point_answer t (midpoint_of y) in (point_number a, point_value a)) x false,
-  alike (λ t y. let a = point_answer t (simple_fraction y.lower y.upper) in (point_number a, point_value a)) x false,
-  alike (λ t y. let a = point_answer t (cut_point_of y integer) in (point_number a, point_value a)) x integer,
-  alike (λ t y. let a = whether_at t (subdivisible y integer) in (whether_number a, whether_value a)) x integer,
-  alike (λ t y. let a = pieces_at t (first_cut y integer) in (pieces_number a, pieces_of a)) x integer,
-  alike (λ t y. let a = pieces_at t (later_cut y integer) in (pieces_number a, pieces_of a)) x integer,
+  alike (λ t y. let a = point_answer t (midpoint_of y) in (answer_number a, point_value a)) x false,
+  alike (λ t y. let a = point_answer t (simple_fraction y.lower y.upper) in (answer_number a, point_value a)) x false,
+  alike (λ t y. let a = point_answer t (cut_point_of y integer) in (answer_number a, point_value a)) x integer,
+  alike (λ t y. let a = whether_at t (subdivisible y integer) in (answer_number a, whether_value a)) x integer,
+  alike (λ t y. let a = pieces_at t (first_cut y integer) in (answer_number a, pieces_of a)) x integer,
+  alike (λ t y. let a = pieces_at t (later_cut y integer) in (answer_number a, pieces_of a)) x integer,
 )
 
 -- "the two count as equal": intervals are the same before their zeros are put as after, and once put, the same is equal in every bit
@@ -179,7 +177,7 @@ divisible_by_cut x integer f h =
 -- an interval handed in, or read from the bit patterns that `bits_of` gives of its bounds
 pub bits_alike : (x : Interval) (integer : Bool) → InFormat x → legal_interval x integer ≡ true → put_interval x ≡ x
     → from_bits_says integer (to_bits binary64 x.lower) (to_bits binary64 x.upper) ≡ (0, x)
-bits_alike x integer f h p = ap (λ (a : BitsAnswer). (from_bits_number a, from_bits_value a)) (read_back x integer f h p)
+bits_alike x integer f h p = ap (λ (a : Result Interval Refusal). (answer_number a, from_bits_value a)) (read_back x integer f h p)
 
 -- a code read from all the bytes that follow, or from the first eight or more
 pub eight_enough : (k : ℕ) (s : List ℕ) → 8 ≤ k → get_or s 0 0 < 256 → read_says (take k s) ≡ read_says s
@@ -189,18 +187,18 @@ eight_enough k s h b = ap said (read_first k s h b)
 pub pixel_by_level : (c : Coordinate) → legal ordinary_floor c ≡ true → pixel_says c ≡ (0, pixel_at_level (level c.rank) c.index)
 unfolding pixel_asked
 pixel_by_level c h =
-    ap (λ (a : PixelAnswer). (pixel_number a, pixel_value a)) (cond_yes (legal ordinary_floor c) (P.At (pixel c.rank c.index)) (P.Refused R.Damaged) h)
+    ap (λ (a : Result ℕ Refusal). (answer_number a, pixel_value a)) (cond_yes (legal ordinary_floor c) (Ok (pixel c.rank c.index)) (Err R.Damaged) h)
     ∙ ap (λ (p : ℕ). (0, p)) (pixel_level c.rank c.index)
 
 -- a coordinate begins inside a side: by the places along it, or by its pixel
-pub inside_by_pixel : (c : Coordinate) (side : ℕ) → legal ordinary_floor c ≡ true → (inside_says c side).1 ≡ whether_value (answered (ltb (pixel_says c).1 side))
+pub inside_by_pixel : (c : Coordinate) (side : ℕ) → legal ordinary_floor c ≡ true → (inside_says c side).1 ≡ whether_value (Ok (ltb (pixel_says c).1 side))
 unfolding inside_asked
 inside_by_pixel c side h =
-    ap whether_value (cond_yes (legal ordinary_floor c) (answered (inside side c.rank c.index)) (W.Refused R.Damaged) h
-    ∙ ap answered (inside_pixel side c.rank c.index ∙ ap (λ (p : ℕ). ltb p side) (sym own)))
+    ap whether_value (cond_yes (legal ordinary_floor c) (Ok (inside side c.rank c.index)) (Err R.Damaged) h
+    ∙ ap Ok (inside_pixel side c.rank c.index ∙ ap (λ (p : ℕ). ltb p side) (sym own)))
   where
     own : (pixel_says c).1 ≡ pixel c.rank c.index
-    own = unfold pixel_asked in ap pixel_value (cond_yes (legal ordinary_floor c) (P.At (pixel c.rank c.index)) (P.Refused R.Damaged) h)
+    own = unfold pixel_asked in ap pixel_value (cond_yes (legal ordinary_floor c) (Ok (pixel c.rank c.index)) (Err R.Damaged) h)
 
 -- "It is subdivisible if k > -32": the halves are given exactly then, where their indices stay under 2^47
 high_legal : (c : Coordinate) → legal ordinary_floor c ≡ true → c.index < 2 ^ 46
@@ -218,8 +216,8 @@ unfolding halves_asked subdivisible_asked
 halves_if_halvable c h i = go (above_floor ordinary_floor c.rank) refl
   where
     go : (t : Bool) → above_floor ordinary_floor c.rank ≡ t
-        → (halves_number (cond (legal ordinary_floor c && (t && legal ordinary_floor (high_half c))) (H.Halves (low_half c) (high_half c)) (H.Refused R.Damaged)) ≡ 0)
-        ↔ (whether_value (cond (legal ordinary_floor c) (answered t) (W.Refused R.Damaged)) ≡ 1)
+        → (answer_number {A = Halves} (cond (legal ordinary_floor c && (t && legal ordinary_floor (high_half c))) (Ok (record { low = low_half c; high = high_half c })) (Err R.Damaged)) ≡ 0)
+        ↔ (whether_value (cond (legal ordinary_floor c) (Ok t) (Err R.Damaged)) ≡ 1)
     go true e = rw (h, high_legal c h i e) (λ _. refl, λ _. refl)
     go false e = rw h (λ z. absurd (omega arith), λ z. absurd (omega arith))
 

@@ -3,77 +3,77 @@
 use Rattle.std.specs.Prelude.{Bool, false, List, ℕ, Float}
 use Rattle.std.specs.Float.{binary64}
 use Rattle.std.specs.Float.Ieee.{of_bits}
-use Rattle.refusal.specs.Number.{whether_number, whether_value}
+use Rattle.refusal.specs.Number.{answer_number, whether_value}
 use Rattle.small.specs.Small.{code_of, code_bytes, read_small}
-use Rattle.small.specs.Answers.{code_number, read_number, read_value, read_count}
+use Rattle.small.specs.Answers.{read_value, read_count}
 use Rattle.coordinate.specs.declared.Coordinate.{Coordinate}
 use Rattle.coordinate.specs.Axis.{ordinary_floor}
 use Rattle.coordinate.specs.Lone.{pixel_asked, halves_asked, subdivisible_asked, inside_asked}
-use Rattle.coordinate.specs.Answers.{pixel_number, pixel_value, halves_number, halves_low, halves_high}
+use Rattle.coordinate.specs.Answers.{pixel_value, halves_low, halves_high}
 use Rattle.interval.specs.declared.Interval.{Interval}
 use Rattle.interval.specs.Bounds.{legal_interval, put_interval}
 use Rattle.interval.specs.Kinds.{midpoint_of, cut_point_of}
 use Rattle.interval.specs.Cuts.{subdivisible, first_cut, later_cut}
 use Rattle.interval.specs.Fraction.{simple_fraction}
 use Rattle.interval.specs.Answers.{point_answer, whether_at, pieces_at, answer_from_bits, bounds_from}
-use Rattle.interval.specs.Answers.{point_number, point_value, pieces_number, pieces_of, from_bits_number, from_bits_value}
+use Rattle.interval.specs.Answers.{point_value, pieces_of, from_bits_value}
 
 -- SMALL NUMBERS
 -- `write_small`: the number, and the code's bytes
 abbrev pub write_says : ℕ → ℕ × List ℕ
-write_says x = let a = code_of x in (code_number a, code_bytes a)
+write_says x = let a = code_of x in (answer_number a, code_bytes a)
 
 -- `read_small`: the number, what was read, and how many bytes it takes
 abbrev pub read_says : List ℕ → ℕ × ℕ × ℕ
-read_says s = let a = read_small s in (read_number a, read_value a, read_count a)
+read_says s = let a = read_small s in (answer_number a, read_value a, read_count a)
 
 -- COORDINATES
 -- `pixel_index`: the number, and the pixel
 abbrev pub pixel_says : Coordinate → ℕ × ℕ
-pixel_says c = let a = pixel_asked ordinary_floor c in (pixel_number a, pixel_value a)
+pixel_says c = let a = pixel_asked ordinary_floor c in (answer_number a, pixel_value a)
 
 -- `subdivide`: the number, and the two halves
 abbrev pub halves_says : Coordinate → ℕ × Coordinate × Coordinate
-halves_says c = let a = halves_asked ordinary_floor c in (halves_number a, halves_low a, halves_high a)
+halves_says c = let a = halves_asked ordinary_floor c in (answer_number a, halves_low a, halves_high a)
 
 -- `is_subdivisible` of a coordinate: the number, and 1 for yes
 abbrev pub halvable_says : Coordinate → ℕ × ℕ
-halvable_says c = let a = subdivisible_asked ordinary_floor c in (whether_number a, whether_value a)
+halvable_says c = let a = subdivisible_asked ordinary_floor c in (answer_number a, whether_value a)
 
 -- `is_inside`: the number, and 1 for yes
 abbrev pub inside_says : Coordinate → ℕ → ℕ × ℕ
-inside_says c side = let a = inside_asked ordinary_floor c side in (whether_number a, whether_value a)
+inside_says c side = let a = inside_asked ordinary_floor c side in (answer_number a, whether_value a)
 
 -- INTERVALS
 -- `midpoint`: the number, and the point
 abbrev pub midpoint_says : Interval → ℕ × Float
-midpoint_says x = let a = point_answer (legal_interval x false) (midpoint_of (put_interval x)) in (point_number a, point_value a)
+midpoint_says x = let a = point_answer (legal_interval x false) (midpoint_of (put_interval x)) in (answer_number a, point_value a)
 
 -- `subdivision_point`: the number, and the cut point
 abbrev pub cut_point_says : Bool → Interval → ℕ × Float
-cut_point_says integer x = let a = point_answer (legal_interval x integer) (cut_point_of (put_interval x) integer) in (point_number a, point_value a)
+cut_point_says integer x = let a = point_answer (legal_interval x integer) (cut_point_of (put_interval x) integer) in (answer_number a, point_value a)
 
 -- `simple_fraction`: the number, and the point
 abbrev pub fraction_says : Interval → ℕ × Float
 fraction_says x =
     let a = point_answer (legal_interval x false) (simple_fraction (put_interval x).lower (put_interval x).upper) in
-    (point_number a, point_value a)
+    (answer_number a, point_value a)
 
 -- `is_subdivisible` of an interval: the number, and 1 for yes
 abbrev pub divisible_says : Bool → Interval → ℕ × ℕ
-divisible_says integer x = let a = whether_at (legal_interval x integer) (subdivisible (put_interval x) integer) in (whether_number a, whether_value a)
+divisible_says integer x = let a = whether_at (legal_interval x integer) (subdivisible (put_interval x) integer) in (answer_number a, whether_value a)
 
 -- `first_cut`: the number, and the pieces
 abbrev pub first_cut_says : Bool → Interval → ℕ × List Interval
-first_cut_says integer x = let a = pieces_at (legal_interval x integer) (first_cut (put_interval x) integer) in (pieces_number a, pieces_of a)
+first_cut_says integer x = let a = pieces_at (legal_interval x integer) (first_cut (put_interval x) integer) in (answer_number a, pieces_of a)
 
 -- `later_cut`: the number, and the pieces
 abbrev pub later_cut_says : Bool → Interval → ℕ × List Interval
-later_cut_says integer x = let a = pieces_at (legal_interval x integer) (later_cut (put_interval x) integer) in (pieces_number a, pieces_of a)
+later_cut_says integer x = let a = pieces_at (legal_interval x integer) (later_cut (put_interval x) integer) in (answer_number a, pieces_of a)
 
 -- `interval_from_bits`: the number, and the interval
 abbrev pub from_bits_says : Bool → ℕ → ℕ → ℕ × Interval
-from_bits_says integer lower upper = let a = answer_from_bits lower upper integer in (from_bits_number a, from_bits_value a)
+from_bits_says integer lower upper = let a = answer_from_bits lower upper integer in (answer_number a, from_bits_value a)
 
 -- PATTERNS of binary64: a bit for the sign, 11 for the exponent, 52 for the fraction
 abbrev pub zero0 : ℕ

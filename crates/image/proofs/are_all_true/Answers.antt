@@ -1,23 +1,14 @@
 -- `are_all_true` meets its contract. Assumes nothing.
-use mathlib.Core.Path.{◌≡◌, ap}
-use Rattle.image.specs.declared.Seen.TheVariants as S
-use Rattle.image.proofs.CountLaws.{opposite, all_true}
+use mathlib.Core.Path.{sym, ap, ◌∙◌}
+use Rattle.image.proofs.CountLaws.{opposite, all_opposite}
 use Rattle.image.proofs.are_all_true.Goals as goal
 
-pub returns-in-Yes : goal.returns-in-Yes
-returns-in-Yes c =
+pub returns-in_err-unmarked : goal.returns-in_err-unmarked
+returns-in_err-unmarked c =
     let a = c.args in
-    let e : c.rectangle_holds.result ≡ S.Yes = c.in-Yes.is in
-    all_true a.width a.height a.r a.cells.now c.rectangle_holds.result S.No c.rectangle_holds.ensures (ap opposite e)
+    c.from_residual.ensures ∙ ap opposite c.in_err-unmarked.ensures ∙ sym (all_opposite a.width a.height a.r a.cells.now)
 
-pub returns-in-No : goal.returns-in-No
-returns-in-No c =
+pub returns : goal.returns
+returns c =
     let a = c.args in
-    let e : c.rectangle_holds.result ≡ S.No = c.in-No.is in
-    all_true a.width a.height a.r a.cells.now c.rectangle_holds.result S.Yes c.rectangle_holds.ensures (ap opposite e)
-
-pub returns-in-Outside : goal.returns-in-Outside
-returns-in-Outside c =
-    let a = c.args in
-    let e : c.rectangle_holds.result ≡ S.Outside = c.in-Outside.is in
-    all_true a.width a.height a.r a.cells.now c.rectangle_holds.result S.Outside c.rectangle_holds.ensures (ap opposite e)
+    ap opposite c.in_ok-unmarked.ensures ∙ sym (all_opposite a.width a.height a.r a.cells.now)

@@ -1,23 +1,16 @@
 -- `count` meets its contract. Assumes nothing.
 use mathlib.Core.Path.{sym, ap, ◌∙◌}
-use lib.ListN.{length}
-use Rattle.image.specs.declared.CellTallyAnswer.TheVariants as A
-use Rattle.image.proofs.RangeLaws.{ready_rows}
+use Rattle.std.specs.Prelude.{Some}
 use Rattle.image.proofs.CountLaws.{tally_outside, tally_answered}
 use Rattle.image.proofs.count.Goals as goal
 
-pub count_rectangle-tally-requires : goal.count_rectangle-tally-requires
-count_rectangle-tally-requires c =
+pub returns-in_err-region : goal.returns-in_err-region
+returns-in_err-region c =
     let a = c.args in
-    ready_rows a.width a.height a.r (length a.cells.now) (sym c.is_ready.ensures ∙ c.if-is_ready.true)
-
-pub returns-then-is_ready : goal.returns-then-is_ready
-returns-then-is_ready c =
-    let a = c.args in
-    ap A.Of c.count_rectangle-tally.ensures
-    ∙ sym (tally_answered a.width a.height a.r a.taken a.cells.now (sym c.is_ready.ensures ∙ c.if-is_ready.true))
+    c.from_residual.ensures ∙ sym (tally_outside a.width a.height a.r a.taken a.cells.now c.in_err-region.ensures)
 
 pub returns : goal.returns
 returns c =
     let a = c.args in
-    sym (tally_outside a.width a.height a.r a.taken a.cells.now (sym c.is_ready.ensures ∙ c.if-is_ready.false))
+    let (ready, cells, width, r) = c.in_ok-region.ensures in
+    ap Some (rw (cells, width, r) at c.count_rectangle.ensures) ∙ sym (tally_answered a.width a.height a.r a.taken a.cells.now ready)

@@ -5,7 +5,7 @@ use Rattle.image.proofs.RangeLaws.{first_right, first_zero, first_beyond, first_
 use Rattle.image.proofs.first_pixel.Goals as goal
 
 pub returns-then-rank-lt-PIXEL_RANK : goal.returns-then-rank-lt-PIXEL_RANK
-returns-then-rank-lt-PIXEL_RANK c = let a = c.args in c.smaller.ensures ∙ first_right a.side a.rank a.index c.if-rank-lt-PIXEL_RANK.true
+returns-then-rank-lt-PIXEL_RANK c = let a = c.args in c.min.ensures ∙ first_right a.side a.rank a.index c.if-rank-lt-PIXEL_RANK.true
 
 pub returns-then-index-eq0 : goal.returns-then-index-eq0
 returns-then-index-eq0 c = let a = c.args in first_zero a.side a.rank a.index c.if-rank-lt-PIXEL_RANK.false c.if-index-eq0.true
@@ -21,4 +21,4 @@ overflow_shl-index c = let a = c.args in omega (arith, rank_bound a.rank a.index
 pub returns : goal.returns
 returns c =
     let a = c.args in
-    c.smaller-2.ensures ∙ first_left a.side a.rank a.index c.if-rank-lt-PIXEL_RANK.false c.if-index-rank.false
+    c.min-2.ensures ∙ first_left a.side a.rank a.index c.if-rank-lt-PIXEL_RANK.false c.if-index-rank.false

@@ -1,9 +1,9 @@
 -- `bits_of` meets its contract. Assumes nothing.
-use Rattle.interval.proofs.BoundBits.{nan_pattern, number_test}
+use Rattle.std.proofs.Common.{sym, ap, ◌∙◌}
+use lib.Ieee.{binary64, to_bits}
+use Rattle.interval.proofs.BoundBits.{is_nan_lem}
 use Rattle.interval.proofs.bits_of.Goals as goal
 
-pub float_to_bits-result : goal.float_to_bits-result
-float_to_bits-result c = number_test c.args.x c.if-x.false
-
-pub returns-then-x : goal.returns-then-x
-returns-then-x c = nan_pattern c.args.x c.if-x.true
+pub returns-then-is_nan : goal.returns-then-is_nan
+unfolding to_bits
+returns-then-is_nan c = sym (ap (to_bits binary64) (is_nan_lem c.args.x (sym c.is_nan.ensures.value ∙ c.if-is_nan.true)))

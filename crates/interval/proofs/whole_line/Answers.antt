@@ -1,8 +1,8 @@
--- `whole_line` meets its contract: 1 / 0 and -1 / 0 are computed. Assumes nothing.
+-- `whole_line` meets its contract: the two patterns are computed. Assumes nothing.
 use Rattle.std.proofs.Common.{refl}
-use lib.Ieee.{div, of_bits, neg}
+use lib.Ieee.{of_bits}
 use Rattle.interval.proofs.whole_line.Goals as goal
 
 pub returns : goal.returns
-unfolding div of_bits neg
+unfolding of_bits
 returns c = refl

@@ -1,5 +1,5 @@
 use mathlib.Core.Path.{◌≡◌}
-use Prim.Native.Nat.{◌-◌, ◌*◌, ◌≤◌}
+use Prim.Native.Nat.{◌*◌, ◌≤◌}
 use Rattle.plan.specs.AtOnce.{children_by}
 use Rattle.plan.specs.PlanComputed.{unjudged}
 use Rattle.plan.proofs.JudgeLaws.{judged_from, judged_on}
@@ -7,8 +7,5 @@ use Rattle.plan.proofs.judge_children.Given as goal
 
 abbrev pub invariant-loop-i : goal.invariant-loop-i
 invariant-loop-i l =
-    (l.i ≤ l.n) × (l.j.evaluations ≤ 6 * l.i) × (l.j.incomplete ≤ l.i)
-    × (judged_on l.p l.same l.cells l.k l.b l.verdicts l.j l.i ≡ judged_from l.p l.same l.cells unjudged 0 (children_by l.k l.b) l.verdicts)
-
-abbrev pub decreases-loop-i : goal.decreases-loop-i
-decreases-loop-i l = l.n - l.i
+    (l.j.evaluations ≤ 6 * l.i) × (l.j.incomplete ≤ l.i)
+    × (judged_on l.p l.same l.cells l.k l.fn.b l.verdicts l.j l.i ≡ judged_from l.p l.same l.cells unjudged 0 (children_by l.k l.fn.b) l.verdicts)

@@ -1,76 +1,49 @@
 -- `peek` meets its contract: a block read lies inside the bytes used. Assumes nothing.
-use mathlib.Core.Path.{◌≡◌, sym, ap, ◌∙◌}
-use mathlib.Core.Bool.{true}
-use Prim.Native.Nat.{◌≤◌, ◌<◌}
-use native.Mathlib.Omega.{arith}
-use lib.ListN.{length}
-use Rattle.queue.specs.Ring.{fits_ring}
+use Rattle.std.proofs.Common.{◌≡◌, ◌≤◌, length, arith, sym, ap, ◌∙◌}
 use Rattle.queue.specs.Queue.{taken_with, taken}
-use Rattle.queue.proofs.QueueAnswers.{denied, granted, fits_both, taken_outside, taken_read, taken_inside}
-use mathlib.Core.Bool.{not}
-use Rattle.queue.proofs.peek.Lts
-use Rattle.queue.proofs.peek.Reads
-use Rattle.queue.proofs.peek.Tie
+use Rattle.queue.proofs.RingLaws.{content_of}
+use Rattle.queue.proofs.QueueAnswers.{fits_both, taken_outside, taken_read, taken_inside}
 use Rattle.queue.proofs.peek.Goals as goal
-
--- head and use fit, once that was tested
-fit : (c : Lts.Else1 Tie.the-claims Reads.Pre Reads.Post Tie.handed_clauses) → let a = c.args in fits_ring (length a.ring.now) a.head a.used ≡ true
-fit c = sym c.fits_ring.ensures ∙ granted _ (ap not c.if-not-fits_ring.false)
-
-bounds : (c : Lts.Else1 Tie.the-claims Reads.Pre Reads.Post Tie.handed_clauses) → let a = c.args in
-    (a.head < length a.ring.now) × (a.used ≤ length a.ring.now)
-bounds c = let a = c.args in fits_both (length a.ring.now) a.head a.used (fit c)
-
--- what was read makes the answer
-answered : (r : Lts.After-read_block Tie.the-claims Reads.Pre Reads.Post Tie.handed_clauses) → let a = r.args in
-    taken_with (length a.ring.now) a.head a.used r.read_block.result
-    ≡ taken a.ring.now a.head a.used a.set a.front
-answered r =
-    let a = r.args in
-    taken_read a.ring.now a.head a.used a.set a.front _ _ _ (fit r.before.before.before)
-    r.older_stretch.ensures.bytes r.newer_stretch.ensures.bytes r.read_block.ensures
-
--- a block takes no more bytes than are used
-inside : (b : goal.After-by_fields-b) → b.in-Read.count ≤ b.args.used
-inside b =
-    let a = b.args in
-    taken_inside a.ring.now a.head a.used a.set a.front _ _ b.in-Read.block b.in-Read.count (fit b.before.before.before.before.before.before)
-    b.older_stretch.ensures.bytes b.newer_stretch.ensures.bytes (sym b.in-Read.is ∙ b.read_block.ensures)
-
--- a block takes no more bytes than are used
-inside-2 : (b : goal.After-move_on-next) → b.in-Read.count ≤ b.args.used
-inside-2 b =
-    let a = b.args in
-    taken_inside a.ring.now a.head a.used a.set a.front _ _ b.in-Read.block b.in-Read.count (fit b.before.before.before.before.before.before.before)
-    b.older_stretch.ensures.bytes b.newer_stretch.ensures.bytes (sym b.in-Read.is ∙ b.read_block.ensures)
+use Rattle.queue.proofs.peek.Goals.{After-read_block, In-Some}
 
 pub returns-then-not-fits_ring : goal.returns-then-not-fits_ring
 returns-then-not-fits_ring c =
+    let a = c.args in taken_outside a.ring.now a.head a.used a.set a.front (sym c.if-not-fits_ring.ensures)
+
+pub of-requires : goal.of-requires
+of-requires c = let f = fits_both _ c.args.head c.args.used (sym c.if-not-fits_ring.ensures) in (omega (arith, f.0), f.1)
+
+-- what was read makes the answer
+answered : (c : After-read_block) → let a = c.args in
+    taken_with (length a.ring.now) a.head a.used c.read_block.result ≡ taken a.ring.now a.head a.used a.set a.front
+answered c =
     let a = c.args in
-    taken_outside a.ring.now a.head a.used a.set a.front
-    (sym c.fits_ring.ensures ∙ denied _ (ap not c.if-not-fits_ring.true))
+    taken_read a.ring.now a.head a.used a.set a.front _ _ (sym c.if-not-fits_ring.ensures)
+    (content_of c.args.ring.now c.args.head c.args.used c.of.ensures.older c.of.ensures.newer) c.read_block.ensures
 
-pub older_stretch-requires : goal.older_stretch-requires
-older_stretch-requires c = let f = bounds c.before in (omega (arith, f.0), f.1)
+-- a block takes no more bytes than are used
+inside : (c : In-Some) → c.in-Some.count ≤ c.args.used
+inside c =
+    let a = c.args in
+    taken_inside a.ring.now a.head a.used a.set a.front _ c.in-Some.block c.in-Some.count (sym c.if-not-fits_ring.ensures)
+    (content_of c.args.ring.now c.args.head c.args.used c.of.ensures.older c.of.ensures.newer) c.in-Some.ensures
 
-pub newer_stretch-requires : goal.newer_stretch-requires
-newer_stretch-requires c = let f = bounds c.before.before in (omega (arith, f.0), f.1)
-
-pub move_on-next-requires : goal.move_on-next-requires
-move_on-next-requires c =
-    let f = bounds c.before.before.before.before.before.before in
-    (f.0, omega (arith, f.1, inside c), omega (arith, c))
+pub move_on-requires : goal.move_on-requires
+move_on-requires c =
+    let at = goal.at.move_on-requires c in
+    let f = fits_both _ c.args.head c.args.used (sym c.if-not-fits_ring.ensures) in
+    (f.0, omega (arith, f.1, inside at.In-Some), omega (arith, c))
 
 pub overflow_sub-result : goal.overflow_sub-result
-overflow_sub-result c = inside-2 c
+overflow_sub-result c = inside (goal.at.overflow_sub-result c).In-Some
 
-pub returns-in-Damaged : goal.returns-in-Damaged
-returns-in-Damaged c =
+pub returns-in-None : goal.returns-in-None
+returns-in-None c =
     let a = c.args in
-    ap (taken_with _ a.head a.used) (sym c.in-Damaged.is) ∙ answered c.before.before
+    ap (taken_with _ a.head a.used) (sym c.in-None.is) ∙ answered (goal.at.returns-in-None c).After-read_block
 
-pub returns-in-Read : goal.returns-in-Read
-returns-in-Read c =
+pub returns-in-Some : goal.returns-in-Some
+returns-in-Some c =
     let a = c.args in
-    rw (c.by_fields-b.ensures, c.move_on-next.ensures.value)
-    (ap (taken_with _ a.head a.used) (sym c.in-Read.is) ∙ answered c.before.before.before.before)
+    rw (c.by_fields.ensures, c.move_on.ensures.value)
+    (ap (taken_with _ a.head a.used) (sym c.in-Some.is) ∙ answered (goal.at.returns-in-Some c).After-read_block)

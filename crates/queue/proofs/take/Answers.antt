@@ -1,14 +1,10 @@
 -- `take` meets its contract. Assumes nothing.
-use mathlib.Core.Path.{sym, ap, ◌∙◌}
-use Rattle.queue.specs.Queue.{taken_by}
+use Rattle.std.proofs.lemmas.Result.{err_from_is_err_and}
 use Rattle.queue.proofs.take.Goals as goal
 
-pub returns-in-Front : goal.returns-in-Front
-returns-in-Front c =
-    rw c.remember-last.ensures (ap taken_by (sym c.in-Front.is) ∙ c.peek.ensures)
+pub returns-in_err-read : goal.returns-in_err-read
+returns-in_err-read c =
+    let p = err_from_is_err_and c.from_residual.result c.from_residual.ensures.1 in rw (p.1, p.2) c.in_err-read.ensures
 
-pub returns-in-Damaged : goal.returns-in-Damaged
-returns-in-Damaged c = ap taken_by (sym c.in-Damaged.is) ∙ c.peek.ensures
-
-pub returns-in-Outside : goal.returns-in-Outside
-returns-in-Outside c = ap taken_by (sym c.in-Outside.is) ∙ c.peek.ensures
+pub returns : goal.returns
+returns c = rw c.remember.ensures c.in_ok-read.ensures

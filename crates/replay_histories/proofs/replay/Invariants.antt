@@ -4,4 +4,4 @@ use Rattle.replay_histories.specs.Counting.{calls}
 use Rattle.replay_histories.proofs.replay.Given as goal
 
 abbrev pub invariant-loop-pass : goal.invariant-loop-pass
-invariant-loop-pass g l = calls l.t ≤ l._pass
+invariant-loop-pass g l = calls l.score ≤ l._pass

@@ -1,8 +1,6 @@
 -- `rounded_out` meets its contract. Assumes nothing.
-use mathlib.Core.Path.{◌∙◌, ap, ap₂}
-use Prim.Native.Nat.{ℕ, ◌*◌, ◌/◌, min}
 use native.Mathlib.Omega.{arith}
-use Rattle.image.proofs.RangeLaws.{within, band}
+use Rattle.image.proofs.RangeLaws.{within}
 use Rattle.tiles.specs.Tiles.{touched_tiles}
 use Rattle.tiles.proofs.rounded_out.Goals as goal
 
@@ -24,8 +22,4 @@ overflow_mul-tiles_along-2 c =
 
 pub returns : goal.returns
 unfolding touched_tiles
-returns c =
-    let a = c.args in
-    ap₂ (λ (m n : ℕ). band (16 * (a.r.left / 16)) m (16 * (a.r.top / 16)) n)
-    (c.smaller.ensures ∙ ap (λ (n : ℕ). min (16 * n) a.width) c.tiles_along.ensures)
-    (c.smaller-2.ensures ∙ ap (λ (n : ℕ). min (16 * n) a.height) c.tiles_along-2.ensures)
+returns c = cc

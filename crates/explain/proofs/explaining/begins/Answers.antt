@@ -1,6 +1,6 @@
 -- `explaining::begins` meets its contract. Assumes nothing.
 use Rattle.image.proofs.RangeLaws.{product_fits}
-use Rattle.explain.proofs.BeginLaws.{begins_few, begins_bytes, begins_not}
+use Rattle.explain.proofs.BeginLaws.{begins_few, begins_by}
 use borrow.Author.Rules.{rules}
 use Rattle.explain.proofs.explaining.begins.Goals as goal
 
@@ -12,14 +12,8 @@ returns-then-count-p c =
     let a = c.args in
     begins_few a.p a.ranges a.len a.count c.if-count-p.true
 
-pub returns-in-Bytes : goal.returns-in-Bytes
-returns-in-Bytes c =
+pub returns : goal.returns
+returns c =
     let a = c.args in
-    begins_bytes a.p a.ranges a.len a.count c.if-count-p.false c.least_ring.result c.least_ring.ensures.value _
-    c.in-Bytes.is
-
-pub returns-in-Refused : goal.returns-in-Refused
-returns-in-Refused c =
-    let a = c.args in
-    begins_not a.p a.ranges a.len a.count c.if-count-p.false c.least_ring.result c.least_ring.ensures.value _
-    c.in-Refused.is
+    begins_by a.p a.ranges a.len a.count c.if-count-p.false c.least_ring.result c.least_ring.ensures.value c.is_ok_and.result _
+    (λ need h. search rules) c.is_ok_and.ensures

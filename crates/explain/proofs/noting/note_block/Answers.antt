@@ -4,18 +4,18 @@ use mathlib.Core.Path.{ap}
 use mathlib.Core.Bool.{not}
 use Rattle.explain.proofs.noting.note_block.Goals as goal
 
-pub returns-then-not-covers : goal.returns-then-not-covers
-returns-then-not-covers c =
+pub returns-then-not-is_covered : goal.returns-then-not-is_covered
+returns-then-not-is_covered c =
     let a = c.args in
-    block_away a.p a.column a.row a.cells.now a.tape.now a.step a.b a.k
-    c.covers.result c.covers.ensures (ap not c.if-not-covers.true)
+    block_away a.p a.pixel.column a.pixel.row a.cells.now a.tape.now a.step a.b a.k
+    c.is_covered.result c.is_covered.ensures (ap not c.if-not-is_covered.true)
 
 pub returns : goal.returns
 returns c =
     let a = c.args in
     let cut = c.cut_of-cut in
-    let j = c.judge_again-j in
+    let j = c.judge_children-j in
     let l = c.look_at_children in
-    block_here a.p a.column a.row a.cells.now a.tape.now a.step a.b a.k
-    c.covers.result c.covers.ensures (ap not c.if-not-covers.false)
+    block_here a.p a.pixel.column a.pixel.row a.cells.now a.tape.now a.step a.b a.k
+    c.is_covered.result c.is_covered.ensures (ap not c.if-not-is_covered.false)
     cut.result cut.ensures j.result j.ensures l.result l.ensures c.add_look.result c.add_look.ensures

@@ -9,16 +9,19 @@ pub returns-in-True : goal.returns-in-True
 returns-in-True c =
     let a = c.args in
     let e : c.read_cell.result ≡ R.True = c.in-True.is in
-    sym (one_true a.taken (meaning_of a.cell) (sym c.read_cell.ensures ∙ e))
+    let f = sym (one_true a.taken (meaning_of a.cell) (sym c.read_cell.ensures ∙ e)) in
+    cc
 
 pub returns-in-False : goal.returns-in-False
 returns-in-False c =
     let a = c.args in
     let e : c.read_cell.result ≡ R.False = c.in-False.is in
-    sym (one_false a.taken (meaning_of a.cell) (sym c.read_cell.ensures ∙ e))
+    let f = sym (one_false a.taken (meaning_of a.cell) (sym c.read_cell.ensures ∙ e)) in
+    cc
 
 pub returns-in-Uncertain : goal.returns-in-Uncertain
 returns-in-Uncertain c =
     let a = c.args in
     let e : c.read_cell.result ≡ R.Uncertain = c.in-Uncertain.is in
-    sym (one_uncertain a.taken a.cell (sym c.read_cell.ensures ∙ e))
+    let f = sym (one_uncertain a.taken a.cell (sym c.read_cell.ensures ∙ e)) in
+    cc

@@ -16,7 +16,7 @@ use Rattle.image.proofs.rows.count_rectangle.Tie
 use Rattle.image.proofs.rows.count_rectangle.Goals as goal
 
 -- the three tests
-shaped : (c : goal.Then-is_tile_shaped-taken) → tile_shaped c.args.r ≡ true
+shaped : (c : goal.Then-is_tile_shaped-taken) → tile_shaped c.args.v.r ≡ true
 shaped c =
     let t = c.args.taken in
     sym c.is_tile_shaped.ensures
@@ -33,15 +33,15 @@ fitting c =
     ltb-true t true_code (and_right (c.is_tile_shaped.result && ltb 0 t) (ltb t true_code) c.if-is_tile_shaped-taken.true)
 
 pub overflow_sub-taken : goal.overflow_sub-taken
-overflow_sub-taken c = omega (arith, some_taken c.before)
+overflow_sub-taken c = omega (arith, some_taken c)
 
 pub overflow_cast-taken : goal.overflow_cast-taken
 overflow_cast-taken c = record { fits = omega (arith, fitting c) }
 
 pub count_tile-requires : goal.count_tile-requires
-count_tile-requires c = (c.requires, shaped c)
+count_tile-requires c = shaped c
 
 pub returns-then-is_tile_shaped-taken : goal.returns-then-is_tile_shaped-taken
 returns-then-is_tile_shaped-taken c =
     let a = c.args in
-    c.count_tile.ensures ∙ ap (λ (n : ℕ). tallied n (held_cells a.width a.r (meanings a.cells.now))) (less_more a.taken (some_taken c.before.before))
+    c.count_tile.ensures ∙ ap (λ (n : ℕ). tallied n (held_cells a.v.width a.v.r (meanings a.v.cells.now))) (less_more a.taken (some_taken c.before))

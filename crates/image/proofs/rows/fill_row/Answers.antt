@@ -1,21 +1,20 @@
 -- `fill_row` meets its contract. Assumes nothing.
 use mathlib.Core.Path.{refl, sym, ◌∙◌}
 use native.Mathlib.Omega.{arith}
-use lib.ListN.{length-set}
 use Rattle.image.proofs.PaintLaws.{row_start, row_end, row_pass}
 use Rattle.image.proofs.rows.fill_row.Goals as goal
 
-pub loop-i-init : goal.loop-i-init
-loop-i-init c = let a = c.args in (refl, refl, omega arith, row_start (λ n. a.code) a.row.now)
+pub loop-cell-init : goal.loop-cell-init
+loop-cell-init c = let a = c.args in row_start (λ n. a.code) a.row.now
 
-pub loop-i-preserved : goal.loop-i-preserved
-loop-i-preserved c =
-    let l = c.loop-i in
+pub loop-cell-preserved : goal.loop-cell-preserved
+loop-cell-preserved c =
+    let l = c.loop-cell in
     let a = c.args in
-    (l.invariant.0, simp length-set l.invariant.1, omega arith, row_pass (λ n. a.code) l.i a.code l.row (omega arith) refl ∙ l.invariant.3)
+    row_pass (λ n. a.code) l.cell-index a.code l.row (omega arith) refl ∙ l.invariant
 
 pub returns : goal.returns
 returns c =
-    let l = c.loop-i in
+    let l = c.loop-cell in
     let a = c.args in
-    sym (row_end (λ n. a.code) l.i l.row (omega arith)) ∙ l.invariant.3
+    sym (row_end (λ n. a.code) l.cell-index l.row (omega arith)) ∙ l.invariant

@@ -1,13 +1,9 @@
 use mathlib.Core.Path.{◌≡◌}
-use Prim.Native.Nat.{◌-◌, ◌≤◌}
-use Rattle.image.specs.Cell.{of_kind}
-use Rattle.image.specs.Painting.{some_of}
-use Rattle.image.proofs.CountLaws.{held_from}
+use Rattle.image.specs.Cell.{meanings, of_kind}
+use Rattle.image.specs.Painting.{held_cells, some_of}
+use Rattle.image.proofs.RegionLaws.{rows_from}
 use Rattle.image.proofs.rows.find_in_rows.Given as goal
 
 abbrev pub invariant-loop-row : goal.invariant-loop-row
-invariant-loop-row l =
-    (l.row ≤ l.bottom) × (some_of (of_kind l.kind) (held_from l.width l.left l.right l.row l.bottom l.cells) ≡ some_of (of_kind l.kind) (held_from l.width l.left l.right l.initial.row l.bottom l.cells))
-
-abbrev pub decreases-loop-row : goal.decreases-loop-row
-decreases-loop-row l = l.bottom - l.row
+invariant-loop-row g l =
+    some_of (of_kind l.kind) (rows_from l.v.width l.v.r l.v.cells.now l.row) ≡ some_of (of_kind l.kind) (held_cells l.v.width l.v.r (meanings l.v.cells.now))

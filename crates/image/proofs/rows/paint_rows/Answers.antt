@@ -12,7 +12,8 @@ use Rattle.image.proofs.rows.paint_rows.Tie
 use Rattle.image.proofs.rows.paint_rows.Goals as goal
 
 -- the row ends inside the cells
-room : (c : Lts.In-loop Tie.the-claims Reads.Pre Reads.Post goal.the-invariant-loop-row goal.the-decreases-loop-row) → let l = c.loop-row in let a = c.args in l.row * a.width + a.r.right ≤ length l.cells
+room : (c : Lts.In-loop Tie.the-claims Reads.Pre Reads.Post goal.the-invariant-loop-row goal.the-decreases-loop-row)
+    → let l = c.loop-row in let a = c.args in l.row * a.width + a.r.right ≤ length l.cells
 room c =
     let l = c.loop-row in
     let a = c.args in

@@ -1,38 +1,31 @@
 -- `find_in_stretch` meets its contract. Assumes nothing.
-use mathlib.Core.Path.{◌≡◌, refl, sym, ap, ◌∙◌}
-use Prim.Native.Nat.{ℕ, ◌+◌, ◌*◌, ◌/◌}
-use native.Mathlib.Omega.{arith}
-use lib.ListN.{length, drop}
+use mathlib.Core.Path.{◌≡◌, ◌∙◌}
+use mathlib.Core.List.{List}
+use mathlib.Core.Bool.{◌||◌}
+use Prim.Native.Nat.{ℕ}
+use Rattle.std.proofs.Common.{rules, tests}
+use Rattle.std.proofs.lemmas.Iterator.{YieldsList-from_slice}
+use Rattle.std.proofs.lemmas.Iterator.Search.{any_from_yields_List}
 use Rattle.image.specs.Cell.{meanings, of_kind}
 use Rattle.image.specs.Painting.{some_of}
-use Rattle.image.proofs.DrawLaws.{some_in_part, some_past_part, some_at_last}
+use Rattle.image.proofs.DrawLaws.{stretch_some}
+use Rattle.image.proofs.stretches.find_in_stretch.Lts
+use Rattle.image.proofs.stretches.find_in_stretch.Reads
+use Rattle.image.proofs.stretches.find_in_stretch.Tie
 use Rattle.image.proofs.stretches.find_in_stretch.Goals as goal
 
-pub loop-part-init : goal.loop-part-init
-loop-part-init c = (omega arith, refl)
+-- the parts, and then the rest
+found : (c : Lts.After-any Tie.the-claims Reads.Pre Reads.Post Tie.handed_clauses)
+    → let test = of_kind c.args.kind in
+    (c.any.result || some_of test (meanings c.as_chunks.result.1.now)) ≡ some_of test (meanings c.args.cells.now)
+found c =
+    let parts = c.as_chunks in
+    stretch_some (of_kind c.args.kind) c.args.cells.now _ _ _
+    (any_from_yields_List (λ (m : List ℕ). some_of (of_kind c.args.kind) (meanings m)) _ _ _ c.any.ensures.ran (YieldsList-from_slice parts.result.0.now cc) (λ x b q k. search (rules, tests)))
+    parts.ensures.front parts.ensures.back
 
-pub returns-then-find_in_row : goal.returns-then-find_in_row
-returns-then-find_in_row c =
-    let l = c.loop-part in
-    let a = c.args in
-    sym (some_in_part (of_kind a.kind) (16 * l.part) (16 * l.part + 16) a.cells.now (omega arith) (sym c.find_in_row.ensures ∙ c.if-find_in_row.true))
-    ∙ l.invariant.1
+pub returns-then-any : goal.returns-then-any
+returns-then-any c = c.if-any.true ∙ rw c.if-any.true at (found c.before.before)
 
-pub loop-part-preserved : goal.loop-part-preserved
-loop-part-preserved c =
-    let l = c.loop-part in
-    let a = c.args in
-    let e : 16 * (l.part + 1) ≡ 16 * l.part + 16 = omega arith in (
-      omega arith,
-      ap (λ (n : ℕ). some_of (of_kind a.kind) (meanings (drop n a.cells.now))) e
-          ∙ some_past_part (of_kind a.kind) (16 * l.part) (16 * l.part + 16) a.cells.now (omega arith) (sym c.find_in_row.ensures ∙ c.if-find_in_row.false) ∙ l.invariant.1,
-    )
-
-pub returns : goal.returns
-returns c =
-    let l = c.loop-part in
-    let a = c.args in
-    let n = length a.cells.now in
-    let e : 16 * (n / 16) ≡ 16 * l.part = omega arith in
-    c.find_in_row-2.ensures ∙ some_at_last (of_kind a.kind) (16 * (n / 16)) n a.cells.now refl
-    ∙ ap (λ (m : ℕ). some_of (of_kind a.kind) (meanings (drop m a.cells.now))) e ∙ l.invariant.1
+pub returns-else-any : goal.returns-else-any
+returns-else-any c = c.find_in_row.ensures ∙ rw c.if-any.false at (found c.before.before.before)

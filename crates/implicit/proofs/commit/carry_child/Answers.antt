@@ -13,49 +13,31 @@ returns-then-not-is_incomplete c =
     carried_not a.p a.from a.start a.head a.b a.to a.used a.back a.ring.now a.cells.now
     (child_of a.k a.b a.i) a.o t.result t.ensures (ap not c.if-not-is_incomplete.true)
 
-pub returns-in-Done : goal.returns-in-Done
-returns-in-Done c =
+pub returns-in-Ok : goal.returns-in-Ok
+returns-in-Ok c =
     let q = c.append in
     let a = c.args in
     let y = c.paint_at in
     carried_queued a.p a.from a.start a.head a.b a.to a.used a.back a.ring.now a.cells.now
     (child_of a.k a.b a.i) a.o c.is_incomplete.result c.is_incomplete.ensures (ap not c.if-not-is_incomplete.false)
     c.child_of-c.result c.child_of-c.ensures c.find_direction.result c.find_direction.ensures
-    _ c.in-At.is q.result q.new.ring q.ensures.0 q.ensures.1
-    _ c.in-Done.is _ (rw y.ensures)
+    _ c.in-Some.is q.result q.new.ring q.ensures.0 q.ensures.1
+    _ c.in-Ok.is _ (rw y.ensures)
 
-pub returns-in-NoRoom : goal.returns-in-NoRoom
-returns-in-NoRoom c =
+pub returns-in-Err : goal.returns-in-Err
+returns-in-Err c =
     let q = c.append in
     let a = c.args in
     carried_queued a.p a.from a.start a.head a.b a.to a.used a.back a.ring.now a.cells.now
     (child_of a.k a.b a.i) a.o c.is_incomplete.result c.is_incomplete.ensures (ap not c.if-not-is_incomplete.false)
     c.child_of-c.result c.child_of-c.ensures c.find_direction.result c.find_direction.ensures
-    _ c.in-At.is q.result q.new.ring q.ensures.0 q.ensures.1 _ c.in-NoRoom.is _ refl
+    _ c.in-Some.is q.result q.new.ring q.ensures.0 q.ensures.1 _ c.in-Err.is _ refl
 
-pub returns-in-NotCodable : goal.returns-in-NotCodable
-returns-in-NotCodable c =
-    let q = c.append in
+pub returns-in-None : goal.returns-in-None
+returns-in-None c =
     let a = c.args in
-    carried_queued a.p a.from a.start a.head a.b a.to a.used a.back a.ring.now a.cells.now
-    (child_of a.k a.b a.i) a.o c.is_incomplete.result c.is_incomplete.ensures (ap not c.if-not-is_incomplete.false)
-    c.child_of-c.result c.child_of-c.ensures c.find_direction.result c.find_direction.ensures
-    _ c.in-At.is q.result q.new.ring q.ensures.0 q.ensures.1 _ c.in-NotCodable.is _ refl
-
-pub returns-in-Outside : goal.returns-in-Outside
-returns-in-Outside c =
-    let q = c.append in
-    let a = c.args in
-    carried_queued a.p a.from a.start a.head a.b a.to a.used a.back a.ring.now a.cells.now
-    (child_of a.k a.b a.i) a.o c.is_incomplete.result c.is_incomplete.ensures (ap not c.if-not-is_incomplete.false)
-    c.child_of-c.result c.child_of-c.ensures c.find_direction.result c.find_direction.ensures
-    _ c.in-At.is q.result q.new.ring q.ensures.0 q.ensures.1 _ c.in-Outside.is _ refl
-
-pub returns-in-Nothing : goal.returns-in-Nothing
-returns-in-Nothing c =
-    let a = c.args in
-    let y = c.paint_at-in-Nothing in
+    let y = c.paint_at-in-None in
     carried_nowhere a.p a.from a.start a.head a.b a.to a.used a.back a.ring.now a.cells.now
     (child_of a.k a.b a.i) a.o c.is_incomplete.result c.is_incomplete.ensures (ap not c.if-not-is_incomplete.false)
     c.child_of-c.result c.child_of-c.ensures c.find_direction.result c.find_direction.ensures
-    y.new.cells c.in-Nothing.is y.ensures
+    y.new.cells c.in-None.is y.ensures

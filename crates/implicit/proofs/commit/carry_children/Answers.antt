@@ -7,7 +7,7 @@ use Rattle.implicit.specs.declared.commit.Behind.{Behind}
 use Rattle.implicit.specs.StepComputed.{carrying_of, with_carried}
 use Rattle.implicit.proofs.StepLawsChildren.{carried_join, carried_more, carried_on, carried_end, carried_begun}
 use Rattle.implicit.proofs.commit.carry_children.Goals as goal
-use Rattle.implicit.proofs.commit.carry_children.Goals.{in-Queued, in-Nothing}
+use Rattle.implicit.proofs.commit.carry_children.Goals.{in-Some, in-None}
 
 pub loop-i-init : goal.loop-i-init
 loop-i-init c = (omega arith, refl, refl, omega arith, refl)
@@ -34,8 +34,8 @@ loop-i-preserved c =
     let a = c.args in
     let n : carrying_of c.match-carry_child.next ring cells ≡ with_carried u.queued u.used u.back r.result ring cells =
     (elim c.match-carry_child.branch [
-      | in-Queued w ↦ carried_join u c.match-carry_child.next ring cells r.result _ w.in-Queued.is (ap (λ (x : Behind). carrying_of x ring cells) w.next-is)
-      | in-Nothing w ↦ carried_join u c.match-carry_child.next ring cells r.result _ w.in-Nothing.is (ap (λ (x : Behind). carrying_of x ring cells) w.next-is)
+      | in-Some w ↦ carried_join u c.match-carry_child.next ring cells r.result _ w.in-Some.is (ap (λ (x : Behind). carrying_of x ring cells) w.next-is)
+      | in-None w ↦ carried_join u c.match-carry_child.next ring cells r.result _ w.in-None.is (ap (λ (x : Behind). carrying_of x ring cells) w.next-is)
     ]) in (
       omega (arith, t),
       r.auto.ring ∙ v.1,

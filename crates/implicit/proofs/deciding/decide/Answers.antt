@@ -1,8 +1,9 @@
 -- `deciding::decide` meets its contract. Assumes nothing.
-use mathlib.Core.Path.{ap}
+use mathlib.Core.Path.{refl, ap}
+use Rattle.std.specs.Prelude.{Err}
+use Rattle.refusal.specs.declared.Refusal.TheVariants as R
 use Rattle.queue.specs.Queue.{taken, taken_by}
 use Rattle.queue.proofs.QueueAnswers.{granted}
-use Rattle.implicit.specs.StepComputed.{decision_as}
 use Rattle.implicit.proofs.StepLawsCode.{decide_damaged, decide_few, enough_cells, decide_empty, decide_front}
 use mathlib.Core.Bool.{not}
 use Rattle.implicit.proofs.deciding.decide.Goals as goal
@@ -11,20 +12,19 @@ pub returns-then-not-sound : goal.returns-then-not-sound
 returns-then-not-sound c =
     let a = c.args in
     decide_damaged a.p a.sound a.left (taken a.ring.now a.head a.used a.p.set a.front) a.cells.now a.tape a.verdicts.now
-    (decision_as c.refuse.result) (ap not c.if-not-sound.true) c.refuse.ensures
+    (ap not c.if-not-sound.true)
 
 pub returns-then-cells-pixel_count : goal.returns-then-cells-pixel_count
 returns-then-cells-pixel_count c =
     let a = c.args in
     decide_few a.p a.sound a.left (taken a.ring.now a.head a.used a.p.set a.front) a.cells.now a.tape a.verdicts.now
-    (decision_as c.refuse-then-cells-pixel_count.result) (ap not c.if-not-sound.false) c.pixel_count.result c.pixel_count.ensures c.if-cells-pixel_count.true c.refuse-then-cells-pixel_count.ensures
+    (ap not c.if-not-sound.false) c.pixel_count.result c.pixel_count.ensures c.if-cells-pixel_count.true
 
 pub returns-then-not-left : goal.returns-then-not-left
 returns-then-not-left c =
     let a = c.args in
     decide_empty a.p a.sound a.left (taken a.ring.now a.head a.used a.p.set a.front) a.cells.now a.tape a.verdicts.now
-    (decision_as c.refuse-then-not-left.result) (ap not c.if-not-sound.false) c.pixel_count.result c.pixel_count.ensures c.if-cells-pixel_count.false (ap not c.if-not-left.true)
-    c.refuse-then-not-left.ensures
+    (ap not c.if-not-sound.false) c.pixel_count.result c.pixel_count.ensures c.if-cells-pixel_count.false (ap not c.if-not-left.true)
 
 pub decide_block-requires : goal.decide_block-requires
 decide_block-requires c = (
@@ -32,23 +32,16 @@ decide_block-requires c = (
   c.requires (granted c.args.sound (ap not c.if-not-sound.false)),
 )
 
-pub returns-in-Front : goal.returns-in-Front
-returns-in-Front c =
+pub returns-in-Ok : goal.returns-in-Ok
+returns-in-Ok c =
     let a = c.args in
     decide_front a.p a.sound a.left (taken a.ring.now a.head a.used a.p.set a.front) a.cells.now a.tape a.verdicts.now
-    (decision_as c.decide_block.result) (ap not c.if-not-sound.false) c.pixel_count.result c.pixel_count.ensures c.if-cells-pixel_count.false (ap not c.if-not-left.false)
-    (taken_by c.peek.result) _ c.peek.ensures (ap taken_by c.in-Front.is) c.decide_block.ensures
+    (ap not c.if-not-sound.false) c.pixel_count.result c.pixel_count.ensures c.if-cells-pixel_count.false c.decide_block.result (ap not c.if-not-left.false)
+    (taken_by c.peek.result) _ c.peek.ensures (ap taken_by c.in-Ok.is) c.decide_block.ensures
 
-pub returns-in-Damaged : goal.returns-in-Damaged
-returns-in-Damaged c =
+pub returns-in-Err : goal.returns-in-Err
+returns-in-Err c =
     let a = c.args in
     decide_front a.p a.sound a.left (taken a.ring.now a.head a.used a.p.set a.front) a.cells.now a.tape a.verdicts.now
-    (decision_as c.refuse-in-Damaged.result) (ap not c.if-not-sound.false) c.pixel_count.result c.pixel_count.ensures c.if-cells-pixel_count.false (ap not c.if-not-left.false)
-    (taken_by c.peek.result) _ c.peek.ensures (ap taken_by c.in-Damaged.is) c.refuse-in-Damaged.ensures
-
-pub returns-in-Outside : goal.returns-in-Outside
-returns-in-Outside c =
-    let a = c.args in
-    decide_front a.p a.sound a.left (taken a.ring.now a.head a.used a.p.set a.front) a.cells.now a.tape a.verdicts.now
-    (decision_as c.refuse-in-Outside.result) (ap not c.if-not-sound.false) c.pixel_count.result c.pixel_count.ensures c.if-cells-pixel_count.false (ap not c.if-not-left.false)
-    (taken_by c.peek.result) _ c.peek.ensures (ap taken_by c.in-Outside.is) c.refuse-in-Outside.ensures
+    (ap not c.if-not-sound.false) c.pixel_count.result c.pixel_count.ensures c.if-cells-pixel_count.false (Err R.Damaged) (ap not c.if-not-left.false)
+    (taken_by c.peek.result) _ c.peek.ensures (ap taken_by c.in-Err.is) refl

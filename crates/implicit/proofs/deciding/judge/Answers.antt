@@ -1,6 +1,6 @@
 -- `deciding::judge` meets its contract. Assumes nothing.
 use mathlib.Core.Path.{ap, ◌∙◌}
-use Rattle.implicit.specs.StepComputed.{decision_as, decision_judged}
+use Rattle.implicit.specs.StepComputed.{decision_judged}
 use Rattle.implicit.proofs.StepLawsCode.{judged_refused, judged_gone}
 use Rattle.implicit.proofs.deciding.judge.Goals as goal
 
@@ -8,7 +8,7 @@ pub returns-then-not-j : goal.returns-then-not-j
 returns-then-not-j c =
     let j = c.judge_children-j in
     let a = c.args in
-    judged_refused a.b a.head a.used a.k j.result (decision_as c.refuse.result) c.if-not-j.true c.refuse.ensures
+    judged_refused a.b a.head a.used a.k j.result c.if-not-j.true
     ∙ ap (decision_judged a.b a.head a.used a.k) j.ensures
 
 pub returns : goal.returns

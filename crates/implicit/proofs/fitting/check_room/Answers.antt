@@ -1,22 +1,20 @@
 -- `fitting::check_room` meets its contract. Assumes nothing.
-use mathlib.Core.Path.{sym, ap, ◌∙◌}
-use Rattle.implicit.specs.declared.deciding.Check.{Check}
-use Rattle.implicit.specs.StepComputed.{decision_by, room_check_of}
-use Rattle.implicit.proofs.StepLawsChildren.{room_asked}
+use mathlib.Core.Path.{ap, ◌∙◌}
+use Prim.Native.Nat.{◌-◌}
+use Rattle.queue.specs.declared.Last.{Last}
+use Rattle.implicit.specs.Record.{put_last}
+use Rattle.implicit.specs.StepComputed.{size_of, size_check}
+use Rattle.implicit.proofs.StepLawsChildren.{size_few}
 use Rattle.implicit.proofs.fitting.check_room.Goals as goal
 
-pub check_decided-requires : goal.check_decided-requires
-check_decided-requires c =
+pub returns-then-room-queued : goal.returns-then-room-queued
+returns-then-room-queued c =
     let a = c.args in
-    room_asked a.queued a.len a.d.check a.d.decided c.in-Passed.is c.requires
+    size_few a.p a.queued (a.len - a.g.used) (put_last a.back) a.g c.if-room-queued.true
 
-pub returns-in-Passed : goal.returns-in-Passed
-returns-in-Passed c =
+pub returns : goal.returns
+returns c =
     let a = c.args in
-    c.check_decided.ensures
-    ∙ ap (λ (x : Check). room_check_of a.p a.queued a.back a.len (decision_by x a.d.decided)) (sym c.in-Passed.is)
-
-pub returns-in-Refused : goal.returns-in-Refused
-returns-in-Refused c =
-    let a = c.args in
-    ap (λ (x : Check). room_check_of a.p a.queued a.back a.len (decision_by x a.d.decided)) (sym c.in-Refused.is)
+    c.check_size.ensures
+    ∙ ap (size_check a.queued (a.len - a.g.used))
+    (c.size_of.ensures.0 ∙ ap (λ (l : Last). size_of a.p l a.g) c.put_last.ensures)

@@ -10,12 +10,12 @@ use Rattle.implicit.proofs.listing.children.Goals as goal
 pub returns-then-not-is_sound : goal.returns-then-not-is_sound
 returns-then-not-is_sound c =
     let a = c.args in
-    list_damaged a.s a.ring.now c.is_sound.result c.is_sound.ensures c.refuse.result (ap not c.if-not-is_sound.true) c.refuse.ensures
+    list_damaged a.s a.ring.now c.is_sound.result c.is_sound.ensures (ap not c.if-not-is_sound.true)
 
 pub returns-then-s : goal.returns-then-s
 returns-then-s c =
     let a = c.args in
-    list_empty a.s a.ring.now c.is_sound.result c.is_sound.ensures c.refuse-then-s.result (ap not c.if-not-is_sound.false) c.if-s.true c.refuse-then-s.ensures
+    list_empty a.s a.ring.now c.is_sound.result c.is_sound.ensures (ap not c.if-not-is_sound.false) c.if-s.true
 
 pub list_front-requires : goal.list_front-requires
 list_front-requires c =

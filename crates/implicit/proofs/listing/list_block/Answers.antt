@@ -6,6 +6,6 @@ pub returns-then-kids-gt0 : goal.returns-then-kids-gt0
 returns-then-kids-gt0 c =
     listed_yes c.args.p c.args.b c.children_of-kids.result c.requires c.children_of-kids.ensures c.if-kids-gt0.true
 
-pub returns : goal.returns
-returns c =
-    listed_no c.args.p c.args.b c.children_of-kids.result c.requires c.children_of-kids.ensures c.refuse.result c.if-kids-gt0.false c.refuse.ensures
+pub returns-else-kids-gt0 : goal.returns-else-kids-gt0
+returns-else-kids-gt0 c =
+    listed_no c.args.p c.args.b c.children_of-kids.result c.requires c.children_of-kids.ensures c.if-kids-gt0.false

@@ -1,17 +1,17 @@
 -- `listing::list_front` meets its contract. Assumes nothing.
-use mathlib.Core.Path.{sym, ap, ◌∙◌}
-use Rattle.queue.specs.Queue.{taken_by}
+use Rattle.std.proofs.Common.{Err, ap, sym, ◌∙◌}
+use Rattle.std.proofs.lemmas.Result.{err_from_is_err_and}
+use Rattle.queue.proofs.QueueAnswers.{take_refused}
 use Rattle.implicit.specs.Listing.{listed_from}
 use Rattle.implicit.proofs.listing.list_front.Goals as goal
 
-pub returns-in-Front : goal.returns-in-Front
-returns-in-Front c =
-    c.list_block.ensures ∙ ap (listed_from c.args.s) (ap taken_by (sym c.in-Front.is) ∙ c.peek.ensures)
+pub returns-in_err-read : goal.returns-in_err-read
+returns-in_err-read c =
+    let s = c.args.s in
+    let p = err_from_is_err_and c.from_residual.result c.from_residual.ensures.1 in
+    rw (p.1, p.2)
+    (ap Err (take_refused c.args.ring.now s.head s.used s.chosen.set s.front _ (sym c.in_err-read.ensures))
+    ∙ ap (listed_from s) c.in_err-read.ensures)
 
-pub returns-in-Damaged : goal.returns-in-Damaged
-returns-in-Damaged c =
-    c.refuse.ensures ∙ ap (listed_from c.args.s) (ap taken_by (sym c.in-Damaged.is) ∙ c.peek.ensures)
-
-pub returns-in-Outside : goal.returns-in-Outside
-returns-in-Outside c =
-    c.refuse-in-Outside.ensures ∙ ap (listed_from c.args.s) (ap taken_by (sym c.in-Outside.is) ∙ c.peek.ensures)
+pub returns : goal.returns
+returns c = c.list_block.ensures ∙ ap (listed_from c.args.s) c.in_ok-read.ensures

@@ -15,8 +15,8 @@ returns-then-cells-pixel_count c =
     run_short a.budget a.s a.ring.now a.cells.now a.tape.now c.is_sound.result c.is_sound.ensures
     (ap not c.if-not-is_sound.false) c.pixel_count.result c.pixel_count.ensures c.if-cells-pixel_count.true
 
-pub take_steps-requires : goal.take_steps-requires
-take_steps-requires c =
+pub take_steps-ending-requires : goal.take_steps-ending-requires
+take_steps-ending-requires c =
     let a = c.args in
     may_begin a.budget a.s a.ring.now a.cells.now a.tape.now c.is_sound.result c.is_sound.ensures
     (ap not c.if-not-is_sound.false) c.pixel_count.result c.pixel_count.ensures c.if-cells-pixel_count.false
@@ -25,5 +25,5 @@ pub returns : goal.returns
 returns c =
     let a = c.args in
     run_done a.budget a.s a.ring.now a.cells.now a.tape.now c.is_sound.result c.is_sound.ensures
-    (ap not c.if-not-is_sound.false) c.pixel_count.result c.pixel_count.ensures c.if-cells-pixel_count.false c.take_steps.result c.report.result
-    c.take_steps.new.ring c.take_steps.new.cells c.take_steps.ensures c.report.ensures
+    (ap not c.if-not-is_sound.false) c.pixel_count.result c.pixel_count.ensures c.if-cells-pixel_count.false _ c.report.result
+    c.take_steps-ending.new.ring c.take_steps-ending.new.cells c.take_steps-ending.ensures c.report.ensures

@@ -1,25 +1,24 @@
 use mathlib.Core.Path.{◌≡◌}
-use mathlib.Core.Bool.{true, cond}
+use mathlib.Core.Bool.{true}
 use mathlib.Core.List.{List}
-use Prim.Native.Nat.{ℕ, ◌+◌, ◌-◌}
+use Prim.Native.Nat.{ℕ, ◌-◌}
 use lib.Dec.{leb}
 use lib.ListN.{length}
 use Rattle.implicit.specs.Record.{pixel_count}
-use Rattle.implicit.specs.RunComputed.{SoundByUse, Bounded}
+use Rattle.implicit.specs.RunComputed.{HowFar, going_on, SoundByUse, Bounded}
 use Rattle.implicit.specs.Step.{tape_step_of}
 use Rattle.implicit.specs.Run.{RunEnd, run_from}
-use Rattle.implicit.specs.declared.running.Progress.{Progress}
 use Rattle.implicit.proofs.RunLoop.{whole_run}
 use Rattle.implicit.proofs.running.take_steps.Given as goal
 
 -- all of the run from a place
-abbrev pub whole : ℕ → List ℕ → Progress → List ℕ → List ℕ → RunEnd
+abbrev pub whole : ℕ → List ℕ → HowFar → List ℕ → List ℕ → RunEnd
 whole = whole_run tape_step_of run_from
 
-abbrev pub invariant-loop-p : goal.invariant-loop-p
-invariant-loop-p l =
-    Bounded l.budget l.tape l.p × (length l.ring ≡ length l.initial.ring) × (length l.cells ≡ length l.initial.cells) × (leb (pixel_count l.p.state.chosen) (length l.cells) ≡ true)
-    × (whole l.budget l.tape l.p l.ring l.cells ≡ whole l.budget l.tape l.initial.p l.initial.ring l.initial.cells) × SoundByUse (length l.ring) l.p.state
+abbrev pub invariant-loop-next : goal.invariant-loop-next
+invariant-loop-next l =
+    Bounded l.budget l.tape (going_on l.p) × (length l.ring ≡ length l.initial.ring) × (length l.cells ≡ length l.initial.cells) × (leb (pixel_count l.p.state.chosen) (length l.cells) ≡ true)
+    × (whole l.budget l.tape (going_on l.p) l.ring l.cells ≡ whole l.budget l.tape (going_on l.initial.p) l.initial.ring l.initial.cells) × SoundByUse (length l.ring) l.p.state
 
-abbrev pub decreases-loop-p : goal.decreases-loop-p
-decreases-loop-p l = l.budget - l.p.steps + cond l.p.going 1 0
+abbrev pub decreases-loop-next : goal.decreases-loop-next
+decreases-loop-next l = l.budget - l.p.steps

@@ -1,7 +1,9 @@
 -- `tiled_running::go_on_tiled` meets its contract. Assumes nothing.
+use mathlib.Core.Path.{refl}
 use native.Mathlib.Omega.{arith}
 use lib.ListN.{length}
 use Rattle.implicit.specs.Step.{world_of}
+use Rattle.implicit.specs.RunComputed.{going_on}
 use Rattle.implicit.specs.TiledComputed.{next_tiled}
 use Rattle.implicit.proofs.RunLoop.{once_empty, once_spent, once_step}
 use Rattle.implicit.proofs.TiledRun.{table_empty, table_spent, table_step}
@@ -13,20 +15,20 @@ empty_ending-requires c = c.requires.1
 pub returns-then-is_empty : goal.returns-then-is_empty
 returns-then-is_empty c =
     let a = c.args in
-    let n = next_tiled (length a.table.now) a.p a.ring.now a.cells.now a.tape.now in record {
-      once_gone = once_empty a.budget a.p a.ring.now a.cells.now n c.is_empty.result c.is_empty.ensures
-          c.halt.result c.empty_ending.result c.if-is_empty.true c.empty_ending.ensures c.halt.ensures c.requires.2;
-      table_after = table_empty a.budget a.p (world_of a.p.state a.ring.now a.cells.now) n a.table.now c.is_empty.result c.is_empty.ensures
+    let n = next_tiled (length a.table.now) (going_on a.p) a.ring.now a.cells.now a.tape.now in record {
+      once_gone = once_empty a.budget (going_on a.p) a.ring.now a.cells.now n c.is_empty.result c.is_empty.ensures
+          _ c.empty_ending.result c.if-is_empty.true c.empty_ending.ensures refl c.requires.2;
+      table_after = table_empty a.budget (going_on a.p) (world_of a.p.state a.ring.now a.cells.now) n a.table.now c.is_empty.result c.is_empty.ensures
           c.if-is_empty.true;
     }
 
 pub returns-then-budget-p : goal.returns-then-budget-p
 returns-then-budget-p c =
     let a = c.args in
-    let n = next_tiled (length a.table.now) a.p a.ring.now a.cells.now a.tape.now in record {
-      once_gone = once_spent a.budget a.p a.ring.now a.cells.now n c.is_empty.result c.is_empty.ensures
-          c.halt-then-budget-p.result c.if-is_empty.false c.if-budget-p.true c.halt-then-budget-p.ensures c.requires.2;
-      table_after = table_spent a.budget a.p (world_of a.p.state a.ring.now a.cells.now) n a.table.now c.is_empty.result c.is_empty.ensures
+    let n = next_tiled (length a.table.now) (going_on a.p) a.ring.now a.cells.now a.tape.now in record {
+      once_gone = once_spent a.budget (going_on a.p) a.ring.now a.cells.now n c.is_empty.result c.is_empty.ensures
+          _ c.if-is_empty.false c.if-budget-p.true refl c.requires.2;
+      table_after = table_spent a.budget (going_on a.p) (world_of a.p.state a.ring.now a.cells.now) n a.table.now c.is_empty.result c.is_empty.ensures
           c.if-is_empty.false c.if-budget-p.true;
     }
 
@@ -37,10 +39,10 @@ go_tiled_step-requires c =
 pub returns : goal.returns
 returns c =
     let a = c.args in
-    let n = next_tiled (length a.table.now) a.p a.ring.now a.cells.now a.tape.now in
+    let n = next_tiled (length a.table.now) (going_on a.p) a.ring.now a.cells.now a.tape.now in
     let w = world_of a.p.state a.ring.now a.cells.now in
     let e = c.go_tiled_step.ensures in record {
-      once_gone = once_step a.budget a.p a.ring.now a.cells.now n c.is_empty.result c.is_empty.ensures
-          c.go_tiled_step.result _ _ c.if-is_empty.false c.if-budget-p.false e.tried.0 e.tried.1 e.tried.2;
-      table_after = table_step a.budget a.p w n a.table.now c.is_empty.result c.is_empty.ensures _ c.if-is_empty.false c.if-budget-p.false e.table_after;
+      once_gone = once_step a.budget (going_on a.p) a.ring.now a.cells.now n c.is_empty.result c.is_empty.ensures
+          _ _ _ c.if-is_empty.false c.if-budget-p.false e.tried.0 e.tried.1 e.tried.2;
+      table_after = table_step a.budget (going_on a.p) w n a.table.now c.is_empty.result c.is_empty.ensures _ c.if-is_empty.false c.if-budget-p.false e.table_after;
     }

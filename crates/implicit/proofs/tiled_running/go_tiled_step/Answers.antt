@@ -1,11 +1,12 @@
 -- `tiled_running::go_tiled_step` meets its contract. Assumes nothing.
-use mathlib.Core.Path.{◌∙◌}
+use mathlib.Core.Path.{refl, ◌∙◌}
 use native.Mathlib.Omega.{arith}
 use lib.ListN.{length, length-drop}
 use lib.Ieee.{binary64, fits}
 use denote.Floats.{passes}
 use Rattle.implicit.specs.Step.{world_of}
 use Rattle.implicit.specs.Tiled.{TiledEndsAs}
+use Rattle.implicit.specs.RunComputed.{going_on}
 use Rattle.implicit.specs.TiledComputed.{next_tiled}
 use Rattle.implicit.proofs.RecordLaws.{use_same}
 use Rattle.implicit.proofs.StepLawsKept.{LastHeld}
@@ -25,36 +26,36 @@ held c =
     )
 
 -- the step is the next one: it was lent the rest of the tape
-ends : (c : goal.In-Finished) → let a = c.args in let s = c.step_tiled in
+ends : (c : goal.In-Ok) → let a = c.args in let s = c.step_tiled in
     TiledEndsAs (world_of a.p.state a.ring.now a.cells.now) a.table.now
-    (next_tiled (length a.table.now) a.p a.ring.now a.cells.now a.tape.now) s.result
+    (next_tiled (length a.table.now) (going_on a.p) a.ring.now a.cells.now a.tape.now) s.result
     s.new.ring s.new.cells s.new.table
 ends c =
     let a = c.args in
     let s = c.step_tiled in
-    tiled_rest a.p a.ring.now a.cells.now a.tape.now a.table.now s.result
+    tiled_rest (going_on a.p) a.ring.now a.cells.now a.tape.now a.table.now s.result
     s.new.ring s.new.cells s.new.table s.ensures
 
 -- the step is the next one: it was lent the rest of the tape
-ends-2 : (c : goal.After-halt) → let a = c.args in let s = c.step_tiled in
+ends-2 : (c : goal.In-Err) → let a = c.args in let s = c.step_tiled in
     TiledEndsAs (world_of a.p.state a.ring.now a.cells.now) a.table.now
-    (next_tiled (length a.table.now) a.p a.ring.now a.cells.now a.tape.now) s.result
+    (next_tiled (length a.table.now) (going_on a.p) a.ring.now a.cells.now a.tape.now) s.result
     s.new.ring s.new.cells s.new.table
 ends-2 c =
     let a = c.args in
     let s = c.step_tiled in
-    tiled_rest a.p a.ring.now a.cells.now a.tape.now a.table.now s.result
+    tiled_rest (going_on a.p) a.ring.now a.cells.now a.tape.now a.table.now s.result
     s.new.ring s.new.cells s.new.table s.ensures
 
 -- the step is the next one: it was lent the rest of the tape
 ends-3 : (c : goal.After-add_step) → let a = c.args in let s = c.step_tiled in
     TiledEndsAs (world_of a.p.state a.ring.now a.cells.now) a.table.now
-    (next_tiled (length a.table.now) a.p a.ring.now a.cells.now a.tape.now) s.result
+    (next_tiled (length a.table.now) (going_on a.p) a.ring.now a.cells.now a.tape.now) s.result
     s.new.ring s.new.cells s.new.table
 ends-3 c =
     let a = c.args in
     let s = c.step_tiled in
-    tiled_rest a.p a.ring.now a.cells.now a.tape.now a.table.now s.result
+    tiled_rest (going_on a.p) a.ring.now a.cells.now a.tape.now a.table.now s.result
     s.new.ring s.new.cells s.new.table s.ensures
 
 pub step_tiled-requires : goal.step_tiled-requires
@@ -66,27 +67,27 @@ pub add_step-requires : goal.add_step-requires
 add_step-requires c =
     let a = c.args in
     let few =
-    step_sums a.p a.ring.now a.cells.now a.tape.now _ (next_plain (length a.table.now) a.p a.ring.now a.cells.now a.tape.now)
-    c.step_tiled.result _ _ (ends c).0 _ _ _ c.in-Finished.is in (
+    step_sums (going_on a.p) a.ring.now a.cells.now a.tape.now _ (next_plain (length a.table.now) (going_on a.p) a.ring.now a.cells.now a.tape.now)
+    c.step_tiled.result _ _ (ends c).0 _ _ _ c.in-Ok.is in (
       c.requires.1,
       omega (arith, c.requires.1, c.requires.2, few.1),
       omega (arith, c.requires.0, c.well_formed, few.0, length-drop a.p.tape a.tape.now),
     )
 
-pub returns-in-Refused : goal.returns-in-Refused
-returns-in-Refused c =
+pub returns-in-Err : goal.returns-in-Err
+returns-in-Err c =
     let a = c.args in
     let e = ends-2 c in record {
-      tried = step_stop a.p a.ring.now a.cells.now a.tape.now _ (next_plain (length a.table.now) a.p a.ring.now a.cells.now a.tape.now)
-          c.step_tiled.result _ _ e.0 _ _ c.halt.result c.in-Refused.is c.halt.ensures c.requires.3;
+      tried = step_stop (going_on a.p) a.ring.now a.cells.now a.tape.now _ (next_plain (length a.table.now) (going_on a.p) a.ring.now a.cells.now a.tape.now)
+          c.step_tiled.result _ _ e.0 _ _ _ c.in-Err.is refl c.requires.3;
       table_after = e.1;
     }
 
-pub returns-in-Finished : goal.returns-in-Finished
-returns-in-Finished c =
+pub returns-in-Ok : goal.returns-in-Ok
+returns-in-Ok c =
     let a = c.args in
     let e = ends-3 c in record {
-      tried = step_on a.p a.ring.now a.cells.now a.tape.now _ (next_plain (length a.table.now) a.p a.ring.now a.cells.now a.tape.now)
-          c.step_tiled.result _ _ e.0 _ _ _ c.in-Finished.is c.add_step.result c.add_step.ensures (held c);
+      tried = step_on (going_on a.p) a.ring.now a.cells.now a.tape.now _ (next_plain (length a.table.now) (going_on a.p) a.ring.now a.cells.now a.tape.now)
+          c.step_tiled.result _ _ e.0 _ _ _ c.in-Ok.is _ c.add_step.ensures (held c);
       table_after = e.1;
     }

@@ -22,8 +22,8 @@ returns-then-not-has_room_for_tiles c =
     (ap not c.if-not-is_sound.false) c.pixel_count.result c.pixel_count.ensures c.if-cells-pixel_count.false c.has_room_for_tiles.result c.has_room_for_tiles.ensures
     (ap not c.if-not-has_room_for_tiles.true)
 
-pub take_tiled_steps-requires : goal.take_tiled_steps-requires
-take_tiled_steps-requires c =
+pub take_tiled_steps-ending-requires : goal.take_tiled_steps-ending-requires
+take_tiled_steps-ending-requires c =
     let a = c.args in
     tiled_begins a.budget a.s a.ring.now a.cells.now a.tape.now a.table.now c.is_sound.result c.is_sound.ensures
     (ap not c.if-not-is_sound.false) c.pixel_count.result c.pixel_count.ensures c.if-cells-pixel_count.false c.has_room_for_tiles.result c.has_room_for_tiles.ensures
@@ -34,5 +34,5 @@ returns c =
     let a = c.args in
     tiled_done a.budget a.s a.ring.now a.cells.now a.tape.now a.table.now c.is_sound.result c.is_sound.ensures
     (ap not c.if-not-is_sound.false) c.pixel_count.result c.pixel_count.ensures c.if-cells-pixel_count.false c.has_room_for_tiles.result c.has_room_for_tiles.ensures
-    (ap not c.if-not-has_room_for_tiles.false) c.take_tiled_steps.result c.report.result _ _ _ c.take_tiled_steps.ensures.run_to c.report.ensures
-    c.take_tiled_steps.ensures.table_after
+    (ap not c.if-not-has_room_for_tiles.false) _ c.report.result _ _ _ c.take_tiled_steps-ending.ensures.run_to c.report.ensures
+    c.take_tiled_steps-ending.ensures.table_after

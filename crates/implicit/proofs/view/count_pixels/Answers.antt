@@ -1,8 +1,7 @@
 -- `implicit::view::count_pixels` meets its contract. Assumes nothing.
 use mathlib.Core.Path.{◌≡◌, ap, ◌∙◌}
-use Rattle.image.specs.declared.CellTallyAnswer.TheVariants as A
+use Rattle.std.specs.Prelude.{Ok, Some}
 use Rattle.image.specs.Cell.{tallied}
-use Rattle.implicit.specs.declared.state.CountsAnswer.TheVariants as C
 use Rattle.implicit.specs.Record.{pixel_cells}
 use Rattle.implicit.specs.View.{counts_from}
 use Rattle.implicit.proofs.ViewLaws.{settled_few, whole_tallied, same_tally, never_outside}
@@ -12,7 +11,7 @@ use Rattle.implicit.proofs.view.count_pixels.Tie
 use Rattle.implicit.proofs.view.count_pixels.Goals as goal
 
 -- what was counted
-counted : (c : Lts.After-count Tie.the-claims Reads.Pre Reads.Post) → let a = c.args in c.count.result ≡ A.Of (tallied a.s.taken (pixel_cells a.s.chosen a.cells.now))
+counted : (c : Lts.After-count Tie.the-claims Reads.Pre Reads.Post) → let a = c.args in c.count.result ≡ Some (tallied a.s.taken (pixel_cells a.s.chosen a.cells.now))
 counted c =
     let a = c.args in
     let w = c.whole-all in
@@ -20,11 +19,11 @@ counted c =
 
 pub with_share-requires : goal.with_share-requires
 with_share-requires c =
-    (c.requires.0, settled_few c.args.s.chosen c.args.s.taken c.args.cells.now _ c.requires.1 (same_tally _ _ _ (counted c.before.before) c.in-Of.is))
+    (c.requires.0, settled_few c.args.s.chosen c.args.s.taken c.args.cells.now _ c.requires.1 (same_tally _ _ _ (counted c.before.before) c.in-Some.is))
 
-pub returns-in-Of : goal.returns-in-Of
-returns-in-Of c =
-    ap C.Of (c.with_share.ensures ∙ ap (counts_from c.args.s) (same_tally _ _ _ (counted c.before.before.before) c.in-Of.is))
+pub returns-in-Some : goal.returns-in-Some
+returns-in-Some c =
+    ap Ok (c.with_share.ensures ∙ ap (counts_from c.args.s) (same_tally _ _ _ (counted c.before.before.before) c.in-Some.is))
 
-pub returns-in-Outside : goal.returns-in-Outside
-returns-in-Outside c = never_outside _ _ (counted c.before.before) c.in-Outside.is
+pub returns-in-None : goal.returns-in-None
+returns-in-None c = never_outside _ _ (counted c.before.before) c.in-None.is

@@ -4,10 +4,8 @@ use mathlib.Core.Bool.{true}
 use lib.ListN.{length}
 use Rattle.queue.specs.Ring.{fits_ring}
 use Rattle.queue.specs.CodeComputed.{place_codable}
-use Rattle.queue.proofs.QueueAnswers.{denied, granted, append_outside, append_uncodable}
+use Rattle.queue.proofs.QueueAnswers.{append_outside, append_uncodable}
 use Rattle.queue.proofs.PlainLaws.{codable_nowhere, codable_placed, appended_plain, ring_plain}
-use mathlib.Core.Path.{ap}
-use mathlib.Core.Bool.{not}
 use Rattle.queue.proofs.appending.append.Lts
 use Rattle.queue.proofs.appending.append.Reads
 use Rattle.queue.proofs.appending.append.Tie
@@ -15,22 +13,22 @@ use Rattle.queue.proofs.appending.append.Goals as goal
 
 -- head and use fit, and the place can be coded
 fit : (c : Lts.Else1 Tie.the-claims Reads.Pre Reads.Post) → let a = c.args in fits_ring (length a.ring.now) a.head a.used ≡ true
-fit c = sym c.fits_ring.ensures ∙ granted _ (ap not c.if-not-fits_ring.false)
+fit c = sym c.fits_ring.ensures ∙ c.if-not-fits_ring.false
 
 place : (c : Lts.Else2 Tie.the-claims Reads.Pre Reads.Post) → let a = c.args in place_codable a.b.x a.b.y a.back.x a.back.y ≡ true
-place c = sym c.is_place_codable.ensures ∙ granted _ (ap not c.if-not-is_place_codable.false)
+place c = sym c.is_place_codable.ensures ∙ c.if-not-is_place_codable.false
 
 pub returns-then-not-fits_ring : goal.returns-then-not-fits_ring
 returns-then-not-fits_ring c =
     let a = c.args in
     append_outside a.ring.now a.head a.used a.set a.back a.b
-    (sym c.fits_ring.ensures ∙ denied _ (ap not c.if-not-fits_ring.true))
+    (sym c.fits_ring.ensures ∙ c.if-not-fits_ring.true)
 
 pub returns-then-not-is_place_codable : goal.returns-then-not-is_place_codable
 returns-then-not-is_place_codable c =
     let a = c.args in
     append_uncodable a.ring.now a.head a.used a.set a.back a.b (fit c.before.before.before.before.before)
-    (codable_nowhere a.set a.back a.b (sym c.is_place_codable.ensures ∙ denied _ (ap not c.if-not-is_place_codable.true)))
+    (codable_nowhere a.set a.back a.b (sym c.is_place_codable.ensures ∙ c.if-not-is_place_codable.true))
 
 pub append_place-requires : goal.append_place-requires
 append_place-requires c =
@@ -48,6 +46,3 @@ returns-then-set-eq0 c =
 
 pub append_used-requires : goal.append_used-requires
 append_used-requires c = (fit c.before.before.before.before.before.before, place c.before.before)
-
-pub returns : goal.returns
-returns c = c.append_used.ensures

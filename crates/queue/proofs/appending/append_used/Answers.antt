@@ -1,9 +1,7 @@
 -- `append_used` meets its contract. Assumes nothing.
 use mathlib.Core.Path.{◌∙◌}
-use Rattle.queue.proofs.QueueAnswers.{denied, granted, append_uncodable}
+use Rattle.queue.proofs.QueueAnswers.{append_uncodable}
 use Rattle.queue.proofs.PlainLaws.{codable_legal}
-use mathlib.Core.Path.{ap}
-use mathlib.Core.Bool.{not}
 use Rattle.queue.proofs.appending.append_used.Goals as goal
 
 pub returns-then-not-are_parameters_legal : goal.returns-then-not-are_parameters_legal
@@ -12,7 +10,7 @@ returns-then-not-are_parameters_legal c =
     let p = c.requires in
     append_uncodable a.ring.now a.head a.used a.set a.back a.b p.0
     (codable_legal a.set a.back a.b _ p.1 c.are_parameters_legal.ensures
-    ∙ denied _ (ap not c.if-not-are_parameters_legal.true))
+    ∙ c.if-not-are_parameters_legal.true)
 
 pub append_kept-requires : goal.append_kept-requires
 append_kept-requires c =
@@ -20,8 +18,5 @@ append_kept-requires c =
     let p = c.requires in (
       p.0,
       codable_legal a.set a.back a.b _ p.1 c.are_parameters_legal.ensures
-          ∙ granted _ (ap not c.if-not-are_parameters_legal.false),
+          ∙ c.if-not-are_parameters_legal.false,
     )
-
-pub returns : goal.returns
-returns c = c.append_kept.ensures

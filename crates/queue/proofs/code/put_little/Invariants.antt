@@ -1,14 +1,8 @@
-use mathlib.Core.Path.{◌≡◌}
-use Prim.Native.Nat.{◌+◌, ◌-◌, ◌≤◌}
-use lib.ListN.{length}
-use lib.Seq.{sets}
+use Rattle.std.proofs.Common.{◌≡◌, ◌++◌, ◌-◌, length, take}
 use Rattle.base.specs.Bytes.{little_endian}
 use Rattle.queue.proofs.code.put_little.Given as goal
 
-abbrev pub invariant-loop-i : goal.invariant-loop-i
-invariant-loop-i l =
-    (l.i ≤ l.count) × (length l.out ≡ length l.initial.out)
-    × (sets l.out (l.at + l.i) (little_endian (l.count - l.i) l.left) ≡ sets l.initial.out l.at (little_endian l.count l.v))
-
-abbrev pub decreases-loop-i : goal.decreases-loop-i
-decreases-loop-i l = l.count - l.i
+abbrev pub invariant-loop-byte : goal.invariant-loop-byte
+invariant-loop-byte l =
+    (length l.out ≡ length l.initial.out)
+    × (take l.byte-index l.out ++ little_endian (length l.out - l.byte-index) l.left ≡ little_endian (length l.initial.out) l.v)

@@ -1,33 +1,33 @@
 -- `put_number` meets its contract: a number below 2^56 has a code. Assumes nothing.
-use mathlib.Core.Path.{sym, ◌∙◌}
-use native.Mathlib.Omega.{arith}
-use lib.ListN.{length-set}
+use Rattle.std.proofs.Common.{◌+◌, ◌≤◌, arith, sym, ap, ◌∙◌, set, length-set, length-take, length-drop}
+use Rattle.base.specs.Bytes.{little_endian}
+use Rattle.base.proofs.BytesLaws.{length_little}
 use Rattle.small.proofs.Writing.{code_stored, code_refused}
-use Rattle.queue.proofs.WriteLaws.{number_put}
+use Rattle.queue.proofs.WriteLaws.{number_put, part_put}
 use Rattle.queue.proofs.code.put_number.Goals as goal
+use Rattle.queue.proofs.code.put_number.Goals.{In-Ok}
 
-pub put_little-requires : goal.put_little-requires
-put_little-requires c =
+-- the tail has room behind the head
+few : (c : In-Ok) → c.in-Ok.code.count ≤ 7
+few c = omega (arith, (code_stored c.args.x c.in-Ok.code (sym c.write_small.ensures ∙ c.in-Ok.is)).few)
+
+pub overflow_add-end-in-Ok : goal.overflow_add-end-in-Ok
+overflow_add-end-in-Ok c = omega (arith, few (goal.at.overflow_add-end-in-Ok c).In-Ok)
+
+pub slice_bounds-put_little-end : goal.slice_bounds-put_little-end
+slice_bounds-put_little-end c = omega (arith, few (goal.at.slice_bounds-put_little-end c).In-Ok, length-set c.args.out.now c.args.at c.in-Ok.code.head)
+
+pub returns-in-Ok : goal.returns-in-Ok
+returns-in-Ok c =
     let a = c.args in
-    let s = code_stored a.x c.in-Code.head c.in-Code.tail c.in-Code.count (sym c.write_small.ensures ∙ c.in-Code.is) in
-    simp length-set (omega (arith, s.few))
+    let k = c.in-Ok.code in
+    let room = few (goal.at.returns-in-Ok c).In-Ok in
+    number_put a.out.now _ a.at a.x k (sym c.write_small.ensures ∙ c.in-Ok.is)
+    (part_put (set a.out.now a.at k.head) (little_endian k.count k.tail) _ (a.at + 1) _
+    (c.put_little.ensures ∙ ap (λ n. little_endian n k.tail) (simp (length-take, length-drop, length-set) (omega arith)))
+    (rw (length_little k.count k.tail) (omega arith)) (rw (length_little k.count k.tail, length-set) (omega arith)))
 
-pub overflow_add-result-in-Code : goal.overflow_add-result-in-Code
-overflow_add-result-in-Code c =
+pub returns-in-Err : goal.returns-in-Err
+returns-in-Err c =
     let a = c.args in
-    let s = code_stored a.x c.in-Code.head c.in-Code.tail c.in-Code.count (sym c.write_small.ensures ∙ c.in-Code.is) in
-    omega (arith, s.few)
-
-pub shape_of-out : goal.shape_of-out
-shape_of-out c = c.put_little.auto.out ∙ simp length-set
-
-pub returns-in-Code : goal.returns-in-Code
-returns-in-Code c =
-    let a = c.args in
-    number_put a.out.now c.put_little.new.out a.at a.x c.in-Code.head c.in-Code.tail c.in-Code.count
-    (sym c.write_small.ensures ∙ c.in-Code.is) c.put_little.ensures
-
-pub returns-in-Refused : goal.returns-in-Refused
-returns-in-Refused c =
-    let a = c.args in
-    absurd (omega (arith, (code_refused a.x c.in-Refused.field-0 (sym c.write_small.ensures ∙ c.in-Refused.is)).1))
+    absurd (omega (arith, (code_refused a.x c.in-Err.field-0 (sym c.write_small.ensures ∙ c.in-Err.is)).1))

@@ -9,17 +9,17 @@ use Rattle.queue.proofs.length.number_length.Goals as goal
 
 pub overflow_add-result : goal.overflow_add-result
 overflow_add-result c =
-    let s = code_stored c.args.x c.in-Code.head c.in-Code.tail c.in-Code.count
-    (sym c.write_small.ensures ∙ c.in-Code.is) in
+    let s = code_stored c.args.x c.in-Ok.code
+    (sym c.write_small.ensures ∙ c.in-Ok.is) in
     omega (arith, s.few)
 
-pub returns-in-Code : goal.returns-in-Code
-returns-in-Code c =
-    let s = code_stored c.args.x c.in-Code.head c.in-Code.tail c.in-Code.count
-    (sym c.write_small.ensures ∙ c.in-Code.is) in
+pub returns-in-Ok : goal.returns-in-Ok
+returns-in-Ok c =
+    let s = code_stored c.args.x c.in-Ok.code
+    (sym c.write_small.ensures ∙ c.in-Ok.is) in
     sym s.long
 
-pub returns-in-Refused : goal.returns-in-Refused
-returns-in-Refused c =
-    ap (λ (l : List ℕ). length l) (sym (code_none c.args.x c.in-Refused.field-0
-    (sym c.write_small.ensures ∙ c.in-Refused.is)))
+pub returns-in-Err : goal.returns-in-Err
+returns-in-Err c =
+    ap (λ (l : List ℕ). length l) (sym (code_none c.args.x c.in-Err.field-0
+    (sym c.write_small.ensures ∙ c.in-Err.is)))

@@ -1,20 +1,13 @@
 -- `read_across` meets its contract: eight bytes are all that a small number takes. Assumes nothing.
-use mathlib.Core.Path.{◌∙◌}
-use mathlib.Core.List.{◌++◌}
-use native.Mathlib.Omega.{arith}
-use lib.ListN.{length-append}
-use lib.ListN.{replicate}
-use Rattle.queue.proofs.ReadLaws.{across}
+use Rattle.std.proofs.Common.{◌≡◌, take, drop, length-take, arith, ap, ◌∙◌}
+use Rattle.queue.specs.RingComputed.{bytes}
+use Rattle.queue.proofs.ReadLaws.{first_byte}
 use Rattle.queue.proofs.read.read_across.Goals as goal
 
-pub gather-requires : goal.gather-requires
-gather-requires c = omega (arith, c.at_most_eight-count.ensures)
-
-pub returns : goal.returns
-returns c =
-    let a = c.args in
-    c.read_small.ensures
-    ∙ rw c.gather.ensures
-    (across (a.older.now ++ a.newer.now) (replicate 8 0) a.at _ c.at_most_eight-count.result
-    (simp length-append (omega arith)) (simp length-append (omega arith)) c.at_most_eight-count.ensures
-    (omega arith))
+pub returns-clause-is_byte : goal.returns-clause-is_byte
+returns-clause-is_byte c =
+    let s = bytes c.args.held in
+    let n = c.min-count.result in
+    let e : c.gather.new.out ≡ take n (drop c.args.at s) = c.gather.ensures.copied ∙ ap (λ k. take k (drop c.args.at s)) (simp length-take (omega arith)) in
+    first_byte s c.args.at n (rw c.len.ensures at c.min-count.ensures)
+    (λ some. rw e at (c.gather.ensures.are_bytes 0 (simp length-take (omega arith))))

@@ -1,24 +1,30 @@
 -- `read_used` meets its contract. Assumes nothing.
-use mathlib.Core.List.{◌++◌}
-use lib.ListN.{length-append}
+use Rattle.std.proofs.Common.{◌+◌, arith, ◌∙◌}
+use Rattle.queue.specs.RingComputed.{bytes}
+use Rattle.queue.proofs.ReadLaws.{get_none}
 use Rattle.queue.proofs.BlockReading.{used_short, used_mark, used_other}
 use Rattle.queue.proofs.read.read_used.Goals as goal
 
-pub returns-then-older-newer-lt2 : goal.returns-then-older-newer-lt2
-returns-then-older-newer-lt2 c =
+pub returns-in_err-first : goal.returns-in_err-first
+returns-in_err-first c =
     let a = c.args in
-    used_short (a.older.now ++ a.newer.now) a.at a.integer a.last (simp length-append c.if-older-newer-lt2.true)
+    c.from_residual.ensures
+    ∙ used_short (bytes a.held) a.at a.integer a.last (omega (arith, get_none (bytes a.held) a.at c.in_err-first.ensures))
+
+pub returns-in_err-second : goal.returns-in_err-second
+returns-in_err-second c =
+    let a = c.args in
+    c.from_residual-in_err-second.ensures
+    ∙ used_short (bytes a.held) a.at a.integer a.last (omega (arith, get_none (bytes a.held) (a.at + 1) c.in_err-second.ensures))
 
 pub returns-then-first-second : goal.returns-then-first-second
 returns-then-first-second c =
     let a = c.args in
-    used_mark (a.older.now ++ a.newer.now) a.at a.integer a.last _ _ c.put-interval.result
-    (simp length-append c.if-older-newer-lt2.false)
-    c.byte_at-first.ensures c.byte_at-second.ensures c.if-first-second.true c.put-interval.ensures
+    used_mark (bytes a.held) a.at a.integer a.last _ _ c.in_ok-first.ensures c.in_ok-second.ensures _ c.if-first-second.true
+    c.put.ensures
 
 pub returns : goal.returns
 returns c =
     let a = c.args in
-    used_other (a.older.now ++ a.newer.now) a.at a.integer a.last _ _ c.read_bounds.result
-    (simp length-append c.if-older-newer-lt2.false)
-    c.byte_at-first.ensures c.byte_at-second.ensures c.if-first-second.false c.read_bounds.ensures
+    used_other (bytes a.held) a.at a.integer a.last _ _ c.in_ok-first.ensures c.in_ok-second.ensures _ c.if-first-second.false
+    c.read_bounds.ensures

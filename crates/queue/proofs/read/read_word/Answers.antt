@@ -1,45 +1,11 @@
--- `read_word` meets its contract: the number so far, with what is left to read, is the number. Assumes nothing.
-use mathlib.Core.Path.{◌≡◌, ◌∙◌}
-use mathlib.Core.List.{◌++◌}
-use Prim.Native.Nat.{◌+◌, ◌-◌, ◌*◌, ◌<◌}
-use native.Mathlib.Omega.{arith}
-use native.Mathlib.Nat.{add-zero}
-use lib.ListN.{length-append}
-use lib.Pow.{pow_mono}
-use Rattle.base.specs.Bytes.{of_big_endian_from}
-use Rattle.queue.proofs.ReadLaws.{word_step, word_fits, both_bytes}
+-- `read_word` meets its contract: the library reads a number's eight bytes as we do. Assumes nothing.
+use Rattle.std.proofs.Common.{arith, ◌∙◌, take, drop, length-take, length-drop}
+use Rattle.queue.specs.RingComputed.{bytes}
+use Rattle.queue.proofs.ReadLaws.{word_of}
 use Rattle.queue.proofs.read.read_word.Goals as goal
 
--- the byte read is one
-byte : (c : goal.After-wide) → c.wide.result < 256
-byte c =
-    let a = c.args in
-    rw (c.wide.ensures, c.byte_at.ensures)
-    (both_bytes a.older.now a.newer.now
-    (λ i. omega (arith, c.type_inv.older i))
-    (λ i. omega (arith, c.type_inv.newer i))
-    (a.at + c.loop-i.i))
-
-pub loop-i-init : goal.loop-i-init
-loop-i-init c = (omega arith, omega arith, rw add-zero)
-
-pub overflow_mul-v : goal.overflow_mul-v
-overflow_mul-v c = omega (arith, pow_mono {i = 8 * c.loop-i.i} {j = 56} (omega arith))
-
-pub overflow_add-v : goal.overflow_add-v
-overflow_add-v c = omega (arith, pow_mono {i = 8 * c.loop-i.i} {j = 56} (omega arith), byte c)
-
-pub loop-i-preserved : goal.loop-i-preserved
-loop-i-preserved c =
-    let l = c.loop-i in
-    let a = c.args in (
-      omega arith,
-      word_fits l.i l.v c.wide.result l.invariant.1 (byte c),
-      rw (c.wide.ensures, c.byte_at.ensures)
-          (word_step (a.older.now ++ a.newer.now) a.at l.i l.v (omega arith)
-          (simp length-append (omega arith)) ∙ l.invariant.2),
-    )
-
 pub returns : goal.returns
-unfolding of_big_endian_from
-returns c = let e : 8 - c.loop-i.i ≡ 0 = omega arith in rw e at c.loop-i.invariant.2
+returns c =
+    let a = c.args in
+    c.from_be_bytes.ensures
+    ∙ rw c.gather.ensures.copied (word_of (take 8 (drop a.at (bytes a.held))) (simp (length-take, length-drop) (omega arith)))

@@ -1,27 +1,24 @@
 -- `store` meets its contract. Assumes nothing.
-use mathlib.Core.Path.{sym, ◌∙◌}
-use native.Mathlib.Omega.{arith}
-use lib.ListN.{take, length-take}
-use Rattle.queue.proofs.RingLaws.{stored_straight}
+use Rattle.std.proofs.Common.{ℕ, ◌-◌, length, take, drop, length-take, length-drop, refl, sym, ◌∙◌, arith}
+use Rattle.std.proofs.lemmas.List.Edits.{sets}
+use Rattle.std.proofs.Math.Seq.{length-sets}
+use Rattle.queue.proofs.RingLaws.{rest_all, stored_straight, stored_round}
+use Rattle.queue.proofs.WriteLaws.{part_put, front_put}
 use Rattle.queue.proofs.ring.store.Goals as goal
 
-pub overflow_sub-ring : goal.overflow_sub-ring
-overflow_sub-ring c = omega (arith, c.requires.0)
-
-pub store_straight-requires : goal.store_straight-requires
-store_straight-requires c =
-    (omega (arith, c.requires.0, c.if-count-ring.true), c.requires.1)
-
-pub returns-then-count-ring : goal.returns-then-count-ring
-returns-then-count-ring c =
+pub returns-then-source-room : goal.returns-then-source-room
+returns-then-source-room c =
     let a = c.args in
-    let p = c.requires in
-    c.store_straight.ensures
-    ∙ sym (stored_straight (take a.count a.source.now) a.ring.now a.from
-    (omega (arith, p.0, p.1, c.if-count-ring.true, length-take a.count a.source.now)))
-
-pub store_round-requires : goal.store_round-requires
-store_round-requires c = c.requires
+    part_put a.ring.now a.source.now _ a.from _ c.copy_from_slice.ensures.after (omega arith) (omega arith)
+    ∙ sym (stored_straight a.source.now a.ring.now a.from (omega arith))
 
 pub returns : goal.returns
-returns c = c.store_round.ensures
+returns c =
+    let a = c.args in
+    let room : ℕ = length a.ring.now - a.from in
+    let first = part_put a.ring.now (take room a.source.now) _ a.from room c.copy_from_slice-2.ensures.after
+    (simp length-take (omega arith)) (simp length-take (omega arith)) in
+    rw first (front_put (sets a.ring.now a.from (take room a.source.now)) (drop room a.source.now) _ _
+    (c.copy_from_slice-3.ensures.after ∙ rest_all a.source.now room)
+    (simp length-drop) (simp (length-drop, length-sets) (omega arith)))
+    ∙ sym (stored_round a.source.now a.ring.now a.from room (omega arith) refl (omega arith) (omega arith))

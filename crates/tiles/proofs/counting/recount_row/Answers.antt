@@ -14,7 +14,11 @@ loop-column-init c = (omega arith, omega arith, refl, refl)
 
 pub recount_tile-requires : goal.recount_tile-requires
 recount_tile-requires c =
-    let l = c.loop-column in record { tiles_ready = record { pixels = c.requires.tiles_ready.pixels; numbers = omega (arith, c.requires.tiles_ready.numbers, l.invariant.2) }; column_bound = (omega (arith, c.loop-column-test.true, c.requires.left_le_right.1), c.requires.left_le_right.2) }
+    let ready = c.requires.tiles_ready in
+    record {
+      tiles_ready = record { pixels = ready.pixels; numbers = omega (arith, ready.numbers, c.loop-column.invariant.2) };
+      column_bound = (omega (arith, c.loop-column-test.true, c.requires.left_le_right.1), c.requires.left_le_right.2);
+    }
 
 pub loop-column-preserved : goal.loop-column-preserved
 loop-column-preserved c =

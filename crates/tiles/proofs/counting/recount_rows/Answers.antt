@@ -14,7 +14,8 @@ use Rattle.tiles.proofs.counting.recount_rows.Tie
 use Rattle.tiles.proofs.counting.recount_rows.Goals as goal
 
 -- the tiles lie in the picture
-inside : (s : Lts.Start Tie.the-claims Reads.Pre Reads.Post goal.the-invariant-loop-row goal.the-decreases-loop-row Tie.handed_clauses) → let a = s.args in Within (tiles_along a.width) (tiles_along a.height) a.tiles
+inside : (s : Lts.Start Tie.the-claims Reads.Pre Reads.Post goal.the-invariant-loop-row goal.the-decreases-loop-row Tie.handed_clauses)
+    → let a = s.args in Within (tiles_along a.width) (tiles_along a.height) a.tiles
 inside s = let a = s.args in within (tiles_along a.width) (tiles_along a.height) a.tiles s.requires.tiles_value
 
 pub loop-row-init : goal.loop-row-init
@@ -22,8 +23,12 @@ loop-row-init c = ((inside c.before.before.before).down, refl, refl)
 
 pub recount_row-requires : goal.recount_row-requires
 recount_row-requires c =
-    let l = c.loop-row in
-    let w = inside c.before.before.before.before.before.before in record { tiles_ready = record { pixels = c.requires.tiles_ready.pixels; numbers = omega (arith, c.requires.tiles_ready.numbers, l.invariant.1) }; left_le_right = (w.across, w.right, omega (arith, c.loop-row-test.true, w.bottom)) }
+    let ready = c.requires.tiles_ready in
+    let w = inside c.before.before.before.before.before.before in
+    record {
+      tiles_ready = record { pixels = ready.pixels; numbers = omega (arith, ready.numbers, c.loop-row.invariant.1) };
+      left_le_right = (w.across, w.right, omega (arith, c.loop-row-test.true, w.bottom));
+    }
 
 pub loop-row-preserved : goal.loop-row-preserved
 loop-row-preserved c =

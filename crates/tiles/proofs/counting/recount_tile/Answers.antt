@@ -26,22 +26,13 @@ room c =
     )
 
 -- what was counted are the tile's numbers
-counted : (c : goal.After-put_numbers-arg-1)
+counted : (c : Lts.After-put_numbers-arg Tie.the-claims Reads.Pre Reads.Post Tie.handed_clauses)
     → let a = c.args in
-    c.in-Of.tally ≡ tallied a.taken (held_cells a.width (tile_in a.width a.height a.column a.row) (meanings a.cells.now))
+    c.in-Some.tally ≡ tallied a.taken (held_cells a.width (tile_in a.width a.height a.column a.row) (meanings a.cells.now))
 counted c =
     let a = c.args in
     tile_counted a.width a.height a.column a.row a.taken a.cells.now c.tile_in-tile.result c.count.result
-    c.in-Of.tally c.requires.column_bound.0 c.requires.column_bound.1 c.requires.tiles_ready.pixels c.tile_in-tile.ensures c.count.ensures c.in-Of.is
-
--- what was counted are the tile's numbers
-counted-2 : (c : goal.After-slice_known-2-1)
-    → let a = c.args in
-    c.in-Of.tally ≡ tallied a.taken (held_cells a.width (tile_in a.width a.height a.column a.row) (meanings a.cells.now))
-counted-2 c =
-    let a = c.args in
-    tile_counted a.width a.height a.column a.row a.taken a.cells.now c.tile_in-tile.result c.count.result
-    c.in-Of.tally c.requires.column_bound.0 c.requires.column_bound.1 c.requires.tiles_ready.pixels c.tile_in-tile.ensures c.count.ensures c.in-Of.is
+    c.in-Some.tally c.requires.column_bound.0 c.requires.column_bound.1 c.requires.tiles_ready.pixels c.tile_in-tile.ensures c.count.ensures c.in-Some.is
 
 pub overflow_mul-at : goal.overflow_mul-at
 overflow_mul-at c = omega (arith, room c.before)
@@ -62,11 +53,11 @@ pub put_numbers-requires : goal.put_numbers-requires
 put_numbers-requires c =
     let a = c.args in
     let small = tile_small a.width a.height a.column a.row a.taken a.cells.now c.requires.column_bound.0 c.requires.column_bound.1 c.requires.tiles_ready.pixels in
-    (room c.before.before.before.before, rw (counted c) small)
+    (room c.before.before.before.before, rw (counted c.before) small)
 
 pub returns : goal.returns
 returns c =
     let a = c.args in
-    tile_recounted a.width a.height a.column a.row a.taken c.tiles_along.result (meanings a.cells.now) c.in-Of.tally
+    tile_recounted a.width a.height a.column a.row a.taken c.tiles_along.result (meanings a.cells.now) c.in-Some.tally
     a.table.now c.put_numbers.new.table c.requires.column_bound.0 c.requires.column_bound.1 c.requires.tiles_ready.numbers c.tiles_along.ensures
-    (counted-2 c) c.put_numbers.ensures
+    (counted c.before.before.before.before) c.put_numbers.ensures

@@ -1,7 +1,0 @@
--- `engine::smyrilox_least_ring` meets its contract. Assumes nothing.
-use mathlib.Core.Path.{ap, ◌∙◌}
-use Rattle.capi.specs.Engine.{needed_record}
-use Rattle.capi.proofs.engine.smyrilox_least_ring.Goals as goal
-
-pub returns : goal.returns
-returns c = c.needed_record.ensures ∙ ap needed_record c.least_ring.ensures.value

@@ -1,5 +1,0 @@
--- `explaining::refused_record` meets its contract. Assumes nothing.
-use Rattle.capi.proofs.explaining.refused_record.Goals as goal
-
-pub returns : goal.returns
-returns c = rw (c.record_of.ensures, c.blank_state.ensures, c.tell_nothing.ensures, c.refusal_number-refusal.ensures)

@@ -1,7 +1,0 @@
--- `leaf::smyrilox_midpoint` meets its contract. Assumes nothing.
-use mathlib.Core.Path.{◌∙◌, ap}
-use Rattle.capi.specs.Leaf.{point_record}
-use Rattle.capi.proofs.leaf.smyrilox_midpoint.Goals as goal
-
-pub returns : goal.returns
-returns c = c.point_record.ensures ∙ ap point_record c.midpoint.ensures

@@ -1,8 +1,0 @@
--- `leaf_records::pixel_record` meets its contract. Assumes nothing.
-use Rattle.capi.proofs.leaf_records.pixel_record.Goals as goal
-
-pub returns-in-At : goal.returns-in-At
-returns-in-At c = rw c.in-At.is
-
-pub returns-in-Refused : goal.returns-in-Refused
-returns-in-Refused c = rw (c.in-Refused.is, c.refusal_number.ensures)

@@ -1,8 +1,0 @@
--- `float::infinity` meets its contract: 1 / 0 is computed. Assumes nothing.
-use Rattle.std.proofs.Common.{refl}
-use lib.Ieee.{div, of_bits}
-use Rattle.interval.proofs.float.infinity.Goals as goal
-
-pub returns : goal.returns
-unfolding div of_bits
-returns c = refl

@@ -1,0 +1,8 @@
+-- std reads the number of the bytes.
+use Rattle.std.proofs.Common.{rules, ◌∙◌, ap}
+use Rattle.base.specs.Bytes.{of_big_endian}
+use Rattle.replay_lists.proofs.ByteLaws.{two_bytes}
+use Rattle.replay_lists.proofs.bytes.number_at.Goals as goal
+
+pub returns : goal.returns
+returns c = c.from.ensures ∙ c.from_be_bytes.ensures ∙ two_bytes c.bytes_at.result (search rules) ∙ ap of_big_endian c.bytes_at.ensures

@@ -1,0 +1,14 @@
+-- What stands in words.
+use Rattle.std.specs.Prelude.{List, ℕ, ◌+◌, ◌%◌, get_or}
+use Rattle.std.specs.Float.{binary64}
+use Rattle.std.specs.Float.Ieee.{of_bits}
+use Rattle.coordinate.specs.declared.Coordinate.{Coordinate}
+use Rattle.interval.specs.declared.Interval.{Interval}
+
+-- bounds by their bit patterns, legal or not
+abbrev pub interval_in : List ℕ → ℕ → Interval
+interval_in words at = record { lower = of_bits binary64 (get_or words at 0); upper = of_bits binary64 (get_or words (at + 1) 0) }
+
+-- an index and a rank
+abbrev pub coordinate_in : List ℕ → ℕ → Coordinate
+coordinate_in words at = record { index = get_or words at 0; rank = get_or words (at + 1) 0 % 256 }

@@ -1,0 +1,7 @@
+// What the replay programs share: reading the lists that they play, and printing what they found.
+#![tactic(auto)]
+
+pub mod bytes;
+pub mod list;
+pub mod said;
+pub mod words;
