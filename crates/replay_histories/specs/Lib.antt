@@ -1,3 +1,4 @@
 -- The definitions that the contracts cite.
 pub mod Counting
+pub mod Entry
 pub mod Words

@@ -1,6 +1,9 @@
 // Reading the list: its next entry, and changes of the tables. A change is a number of stretches; a stretch says what it changes (0 the table of bytes, else
 // that of words and how many bytes each value has), the place of its first value in two bytes, the number of its values, and the values; all with the higher
 // byte first.
+ghost use Rattle.std.specs.Prelude.{◌≡◌, ℕ, IfOk};
+ghost use Rattle.replay_histories.specs.Entry.{entry_of, IsNextByte};
+
 use crate::tables::Tables;
 use replay_lists::bytes::bytes_at;
 use replay_lists::list::next_bytes;
@@ -16,6 +19,8 @@ pub(crate) enum Entry {
 }
 
 impl From<u8> for Entry {
+    ghost from_gives = { λ code r. r ≡ entry_of code };
+
     fn from(code: u8) -> Entry {
         match code {
             0 => Entry::End,
@@ -26,12 +31,17 @@ impl From<u8> for Entry {
 }
 
 // The next byte, 0 at the end of the list.
-fn next_byte(list: &mut impl Read) -> io::Result<u8> {
+fn next_byte<R: Read>(list: &mut R) -> io::Result<u8>
+    ensures { IfOk result (IsNextByte (R.remaining list.old) (R.remaining list.new)) }
+{
     let [byte] = next_bytes::<1, _>(list)?;
     Ok(byte)
 }
 
-pub(crate) fn next_entry(list: &mut impl Read) -> io::Result<Entry> {
+// The entry that the next byte stands for.
+pub(crate) fn next_entry<R: Read>(list: &mut R) -> io::Result<Entry>
+    ensures { IfOk result (λ entry. (byte : ℕ) × IsNextByte (R.remaining list.old) (R.remaining list.new) byte × (entry ≡ entry_of byte)) }
+{
     Ok(Entry::from(next_byte(list)?))
 }
 

@@ -8,6 +8,7 @@
 
 ghost use Rattle.std.specs.Prelude.{◌≡◌, ◌+◌, ◌≤◌, ◌<◌, IfOk, OnOk};
 ghost use Rattle.replay_histories.specs.Counting.{calls, CountedBy};
+ghost use Rattle.replay_histories.specs.Entry.{CountedAs};
 
 use calls::play;
 use list::{Entry, change, next_entry};
@@ -60,6 +61,26 @@ fn replay_call(
     compare(rt, list, score, tables, left)
 }
 
+// An entry of the list, counted as what it is. The end of the list leaves all as it was.
+fn replay_entry(
+    rt: &impl Print,
+    list: &mut impl Read,
+    entry: Entry,
+    score: &mut CallScore,
+    tables: &mut Tables,
+    left: &mut Tables,
+) -> io::Result<()>
+    requires { calls score.old < 4000000 }
+    ensures counted { OnOk result (CountedAs entry tables.new left.new score.old score.new) }
+    ensures at_most_one { OnOk result (calls score.new ≤ calls score.old + 1) }
+{
+    match entry {
+        Entry::Call(number) => replay_call(rt, list, number, score, tables, left),
+        Entry::PartEnd => score.close_part(rt, list),
+        Entry::End => Ok(()),
+    }
+}
+
 // All entries up to the end of the list, but no more than a million.
 fn replay(rt: &impl Print, list: &mut impl Read) -> io::Result<CallScore>
     ensures { IfOk result (λ score. calls score ≤ 1000000) }
@@ -68,13 +89,11 @@ fn replay(rt: &impl Print, list: &mut impl Read) -> io::Result<CallScore>
     let mut left = Tables::new();
     let mut score = CallScore::default();
     for _pass in 0..1000000u64 {
-        match next_entry(list)? {
-            Entry::Call(number) => {
-                replay_call(rt, list, number, &mut score, &mut tables, &mut left)?
-            }
-            Entry::PartEnd => score.close_part(rt, list)?,
-            Entry::End => return Ok(score),
+        let entry = next_entry(list)?;
+        if let Entry::End = entry {
+            return Ok(score);
         }
+        replay_entry(rt, list, entry, &mut score, &mut tables, &mut left)?;
     }
     Ok(score)
 }
