@@ -1,7 +1,8 @@
 // Reading a list: its next bytes, its next words, and its entries one after the other.
-ghost use Rattle.std.specs.Prelude.{◌<◌, ◌≤◌, ℕ, take, flat_map, ⊤, IfOk, MatchOption};
+ghost use Rattle.std.specs.Prelude.{◌≡◌, ◌<◌, ◌≤◌, ℕ, ◌*◌, length, take, flat_map, ⊤, IsTrue, IfOk, OnErr, MatchOption};
 ghost use Rattle.std.specs.Int.{w64, to_le_bytes};
 ghost use Rattle.std.specs.Io.KnownBytes.{Consumes, IsAtEnd};
+ghost use Rattle.replay_lists.specs.Reading.{Ends, ReadsFewer};
 
 use std::io;
 use std::io::Read;
@@ -26,16 +27,58 @@ pub fn next_record<const N: usize, R: Read>(from: &mut R) -> io::Result<Option<[
     Ok(Some(bytes))
 }
 
+// Puts into words the numbers that their bytes spell.
+fn put_words(words: &mut [u64], bytes: &[u8])
+    requires { length bytes.now ≡ 8 * length words.old }
+    ensures { flat_map (to_le_bytes w64) words.new ≡ bytes.now }
+{
+    for (i, word) in words.iter_mut().enumerate() {
+        let spelling = *bytes[8 * i..].first_chunk().unwrap();
+        *word = u64::from_le_bytes(spelling);
+    }
+}
+
+// Reads 64 words at most, all by one call. Whether the list had them all.
+fn read_group<R: Read>(from: &mut R, words: &mut [u64]) -> io::Result<bool>
+    requires { length words.old ≤ 64 }
+    ensures all { IfOk result (λ all. IsTrue all → Consumes (R.remaining from.old) (R.remaining from.new) (flat_map (to_le_bytes w64) words.new)) }
+    ensures end { IfOk result (λ all. (IsTrue all → ⊥) → Ends (8 * length words.new) (R.remaining from.old) (R.remaining from.new)) }
+    ensures err { OnErr result (ReadsFewer (8 * length words.new) (R.remaining from.old) (R.remaining from.new)) }
+{
+    let mut bytes = [0u8; 512];
+    let bytes = &mut bytes[..8 * words.len()];
+    if stream::read_full(from, bytes)? < bytes.len() {
+        return Ok(false);
+    }
+    put_words(words, bytes);
+    Ok(true)
+}
+
+// Reads all of them, in groups.
+fn read_words<R: Read>(from: &mut R, words: &mut [u64]) -> io::Result<bool>
+    ensures all { IfOk result (λ all. IsTrue all → Consumes (R.remaining from.old) (R.remaining from.new) (flat_map (to_le_bytes w64) words.new)) }
+    ensures end { IfOk result (λ all. (IsTrue all → ⊥) → Ends (8 * length words.new) (R.remaining from.old) (R.remaining from.new)) }
+    ensures err { OnErr result (ReadsFewer (8 * length words.new) (R.remaining from.old) (R.remaining from.new)) }
+{
+    let mut done = 0;
+    'groups: while done < words.len() {
+        let end = done + (words.len() - done).min(64);
+        if !read_group(from, &mut words[done..end])? {
+            return Ok(false);
+        }
+        done = end;
+    }
+    Ok(true)
+}
+
 /// The next record of N words, of which the least significant byte stands first; none where the list ends before it does.
 pub fn next_words<const N: usize, R: Read>(from: &mut R) -> io::Result<Option<[u64; N]>>
-    ensures { IfOk result (λ entry. MatchOption entry (IsAtEnd (R.remaining from.new)) (λ words. Consumes (R.remaining from.old) (R.remaining from.new) (flat_map (to_le_bytes w64) words))) }
+    ensures ok { IfOk result (λ entry. MatchOption entry (Ends (8 * N) (R.remaining from.old) (R.remaining from.new)) (λ words. Consumes (R.remaining from.old) (R.remaining from.new) (flat_map (to_le_bytes w64) words))) }
+    ensures err { OnErr result (ReadsFewer (8 * N) (R.remaining from.old) (R.remaining from.new)) }
 {
     let mut words = [0u64; N];
-    for word in words.iter_mut() {
-        let Some(bytes) = next_record(from)? else {
-            return Ok(None);
-        };
-        *word = u64::from_le_bytes(bytes);
+    if !read_words(from, &mut words)? {
+        return Ok(None);
     }
     Ok(Some(words))
 }
