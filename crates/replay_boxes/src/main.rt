@@ -6,10 +6,18 @@ ghost use Rattle.std.specs.Prelude.{◌≡◌};
 ghost use Rattle.replay_boxes.specs.Question.{padding_in, edges_in, plot_in};
 
 use boxes::{BlockBox, Edges, MapKind, Padding, Plot};
-use replay_lists::list::{ask_all, next_words};
-use replay_lists::said::{say_answer, say_interval};
+use replay_lists::list::{Entry, next_words, play_entries};
+use replay_lists::said::{SaidAnswer, SaidInterval};
 use replay_lists::words::{coordinate_at, interval_at, lower_half};
-use std::{fs, io};
+use std::fmt::{Display, Formatter, Write};
+use std::io::Read;
+use std::{fmt, fs, io};
+
+// A question is 19 words.
+#[derive(Clone, Copy)]
+struct Question {
+    words: [u64; 19],
+}
 
 fn padding_of(q: &[u64; 19]) -> Padding
     ensures { result ≡ padding_in q.now }
@@ -52,17 +60,17 @@ fn kind_of(q: &[u64; 19]) -> MapKind {
     }
 }
 
-fn say_edges(rt: &impl Print, e: Edges) -> io::Result<()> {
-    say_interval(rt, e.left)?;
-    say_interval(rt, e.right)?;
-    say_interval(rt, e.bottom)?;
-    say_interval(rt, e.top)
-}
+// What is printed of a box: its edges, then x and y.
+#[derive(Clone, Copy)]
+struct SaidBox(BlockBox);
 
-fn say_box(rt: &impl Print, b: BlockBox) -> io::Result<()> {
-    say_edges(rt, b.edges)?;
-    say_interval(rt, b.x)?;
-    say_interval(rt, b.y)
+impl Display for SaidBox {
+    fn fmt<W: Write>(&self, f: &mut Formatter<W>) -> fmt::Result {
+        let e = self.0.edges;
+        write!(f, "{}{}", SaidInterval(e.left), SaidInterval(e.right))?;
+        write!(f, "{}{}", SaidInterval(e.bottom), SaidInterval(e.top))?;
+        write!(f, "{}{}", SaidInterval(self.0.x), SaidInterval(self.0.y))
+    }
 }
 
 // Prints one answer.
@@ -70,11 +78,29 @@ fn ask(rt: &impl Print, q: &[u64; 19]) -> io::Result<()> {
     let x = coordinate_at(q, 15);
     let y = coordinate_at(q, 17);
     let found = boxes::block_box(plot_of(q), kind_of(q), x, y);
-    say_answer(rt, found, |rt, b| say_box(rt, b))?;
-    println!(rt)
+    println!(rt; "{}", SaidAnswer(found.map(|b| SaidBox(b))))
 }
 
+impl Entry for Question {
+    ghost size = { 152 };
+
+    fn next<R: Read>(from: &mut R) -> io::Result<Option<Question>> {
+        match next_words(from)? {
+            Some(words) => Ok(Some(Question { words })),
+            None => Ok(None),
+        }
+    }
+
+    fn play<P: Print>(&self, rt: &P) -> io::Result<()> {
+        ask(rt, &self.words)
+    }
+}
+
+// The questions of the list, a million at most, and how many there were.
 fn main(rt: HostRuntime) -> io::Result<()> {
     let mut boxes = fs::open(&rt, "boxes")?;
-    ask_all(&rt, &mut boxes, next_words, |q| ask(&rt, &q))
+    match play_entries::<Question, _, _>(&rt, &mut boxes, 1000000)? {
+        Some(asked) => println!(rt; " {asked:x} questions"),
+        None => Ok(()),
+    }
 }

@@ -11,9 +11,9 @@ use Rattle.replay_histories.specs.Counting.{closed, CountedBy}
 abbrev pub entry_of : ℕ → Entry
 entry_of code = if code == 0 then E.End else if code == 255 then E.PartEnd else E.Call code
 
--- a byte that was read: the list's next one, unless the list is at its end
+-- a byte that was read: the list's next one, or 0 at its end
 abbrev pub IsNextByte : Option (List ℕ) → Option (List ℕ) → ℕ → Type 0
-IsNextByte left leaves byte = Consumes left leaves (byte ∷ []) ⊎ IsAtEnd leaves
+IsNextByte left leaves byte = Consumes left leaves (byte ∷ []) ⊎ (IsAtEnd leaves × Consumes left leaves [] × (byte ≡ 0))
 
 -- a call counts by what it left, the end of a part closes it, and the end of the list counts nothing
 abbrev pub CountedAs : Entry → Tables → Tables → CallScore → CallScore → Type 0

@@ -3,12 +3,14 @@
 #![tactic(auto)]
 
 use coordinate::{Coordinate, Halves};
-use interval::{Interval, Pieces, float_of};
+use interval::{Interval, Pieces, bits_of, float_of};
 use replay_lists::bytes::{bytes_at, word_at};
-use replay_lists::list::{ask_all, next_record};
-use replay_lists::said::{say, say_answer, say_interval};
+use replay_lists::list::{Entry, next_record, play_entries};
+use replay_lists::said::{SaidAnswer, SaidInterval, SaidNumber};
 use small::{Code, Number};
-use std::{fs, io};
+use std::fmt::{Display, Formatter, Write};
+use std::io::Read;
+use std::{fmt, fs, io};
 
 // What is asked.
 enum Question<'a> {
@@ -51,37 +53,108 @@ fn question_of(q: &[u8; 25]) -> Option<Question<'_>> {
     }
 }
 
-fn say_bool(rt: &impl Print, yes: bool) -> io::Result<()> {
-    if yes { say(rt, 1) } else { say(rt, 0) }
+// What is printed of what was found: its numbers, one after the other.
+#[derive(Clone, Copy)]
+struct SaidCode(Code);
+
+impl Display for SaidCode {
+    fn fmt<W: Write>(&self, f: &mut Formatter<W>) -> fmt::Result {
+        let code = self.0;
+        write!(f, "{}", SaidNumber(u64::from(code.head)))?;
+        write!(
+            f,
+            "{}{}",
+            SaidNumber(code.tail),
+            SaidNumber(code.count as u64)
+        )
+    }
 }
 
-fn say_code(rt: &impl Print, code: Code) -> io::Result<()> {
-    say(rt, u64::from(code.head))?;
-    say(rt, code.tail)?;
-    say(rt, code.count as u64)
+#[derive(Clone, Copy)]
+struct SaidRead(Number);
+
+impl Display for SaidRead {
+    fn fmt<W: Write>(&self, f: &mut Formatter<W>) -> fmt::Result {
+        write!(
+            f,
+            "{}{}",
+            SaidNumber(self.0.x),
+            SaidNumber(self.0.count as u64)
+        )
+    }
 }
 
-fn say_number(rt: &impl Print, number: Number) -> io::Result<()> {
-    say(rt, number.x)?;
-    say(rt, number.count as u64)
+#[derive(Clone, Copy)]
+struct SaidCoordinate(Coordinate);
+
+impl Display for SaidCoordinate {
+    fn fmt<W: Write>(&self, f: &mut Formatter<W>) -> fmt::Result {
+        write!(
+            f,
+            "{}{}",
+            SaidNumber(self.0.index),
+            SaidNumber(u64::from(self.0.rank))
+        )
+    }
+}
+
+#[derive(Clone, Copy)]
+struct SaidHalves(Halves);
+
+impl Display for SaidHalves {
+    fn fmt<W: Write>(&self, f: &mut Formatter<W>) -> fmt::Result {
+        write!(
+            f,
+            "{}{}",
+            SaidCoordinate(self.0.low),
+            SaidCoordinate(self.0.high)
+        )
+    }
+}
+
+// How many pieces there are, and then each.
+#[derive(Clone, Copy)]
+struct SaidPieces(Pieces);
+
+impl Display for SaidPieces {
+    fn fmt<W: Write>(&self, f: &mut Formatter<W>) -> fmt::Result {
+        match self.0 {
+            Pieces::One(a) => write!(f, " 1{}", SaidInterval(a)),
+            Pieces::Two(a, b) => write!(f, " 2{}{}", SaidInterval(a), SaidInterval(b)),
+            Pieces::Three(a, b, c) => write!(
+                f,
+                " 3{}{}{}",
+                SaidInterval(a),
+                SaidInterval(b),
+                SaidInterval(c)
+            ),
+        }
+    }
+}
+
+// Prints a part of an answer: of a yes 1 and of a no 0, of a bound its bit pattern.
+fn say(rt: &impl Print, said: impl Display + Drop) -> io::Result<()> {
+    print!(rt; "{said}")
 }
 
 fn ask_coordinate(rt: &impl Print, c: Coordinate, side: u32) -> io::Result<()> {
-    say_bool(rt, coordinate::is_legal(c))?;
-    say_answer(rt, coordinate::pixel_index(c), |rt, n| say(rt, n))?;
-    say_answer(rt, coordinate::subdivide(c), |rt, h| say_halves(rt, h))?;
-    say_answer(rt, coordinate::is_subdivisible(c), |rt, b| say_bool(rt, b))?;
-    say_answer(rt, coordinate::is_inside(c, side), |rt, b| say_bool(rt, b))
-}
-
-fn say_halves(rt: &impl Print, halves: Halves) -> io::Result<()> {
-    say_coordinate(rt, halves.low)?;
-    say_coordinate(rt, halves.high)
-}
-
-fn say_coordinate(rt: &impl Print, c: Coordinate) -> io::Result<()> {
-    say(rt, c.index)?;
-    say(rt, u64::from(c.rank))
+    say(rt, SaidNumber(u64::from(coordinate::is_legal(c))))?;
+    say(
+        rt,
+        SaidAnswer(coordinate::pixel_index(c).map(|n| SaidNumber(n))),
+    )?;
+    say(
+        rt,
+        SaidAnswer(coordinate::subdivide(c).map(|h| SaidHalves(h))),
+    )?;
+    say(
+        rt,
+        SaidAnswer(coordinate::is_subdivisible(c).map(|b| SaidNumber(u64::from(b)))),
+    )?;
+    say(
+        rt,
+        SaidAnswer(coordinate::is_inside(c, side).map(|b| SaidNumber(u64::from(b)))),
+    )
 }
 
 fn ask_interval(rt: &impl Print, lower: u64, upper: u64, integer: bool) -> io::Result<()> {
@@ -91,72 +164,50 @@ fn ask_interval(rt: &impl Print, lower: u64, upper: u64, integer: bool) -> io::R
     };
     ask_bounds(rt, x, integer)?;
     let read = interval::interval_from_bits(lower, upper, integer);
-    say_answer(rt, read, |rt, x| say_interval(rt, x))?;
+    say(rt, SaidAnswer(read.map(|x| SaidInterval(x))))?;
     ask_put(rt, x)
 }
 
 // The bounds with their zeros put, and whether they count as the same.
 fn ask_put(rt: &impl Print, x: Interval) -> io::Result<()> {
     let y = interval::put(x);
-    say_interval(rt, y)?;
-    say_bool(rt, interval::is_same(x, y))
+    say(rt, SaidInterval(y))?;
+    say(rt, SaidNumber(u64::from(interval::is_same(x, y))))
 }
 
 fn ask_bounds(rt: &impl Print, x: Interval, integer: bool) -> io::Result<()> {
-    say_bool(rt, interval::is_legal(x, integer))?;
+    let middle = interval::midpoint(x);
     let cut_at = interval::subdivision_point(x, integer);
-    say_answer(rt, interval::midpoint(x), |rt, p| say_point(rt, p))?;
-    say_answer(rt, cut_at, |rt, p| say_point(rt, p))?;
-    say_answer(
+    let is_subdivisible = interval::is_subdivisible(x, integer);
+    say(rt, SaidNumber(u64::from(interval::is_legal(x, integer))))?;
+    say(rt, SaidAnswer(middle.map(|p| SaidNumber(bits_of(p)))))?;
+    say(rt, SaidAnswer(cut_at.map(|p| SaidNumber(bits_of(p)))))?;
+    say(
         rt,
-        interval::is_subdivisible(x, integer),
-        |rt, b| say_bool(rt, b),
+        SaidAnswer(is_subdivisible.map(|b| SaidNumber(u64::from(b)))),
     )?;
-    say_answer(
+    say(
         rt,
-        interval::first_cut(x, integer),
-        |rt, p| say_pieces(rt, p),
+        SaidAnswer(interval::first_cut(x, integer).map(|p| SaidPieces(p))),
     )?;
-    say_answer(
+    say(
         rt,
-        interval::later_cut(x, integer),
-        |rt, p| say_pieces(rt, p),
+        SaidAnswer(interval::later_cut(x, integer).map(|p| SaidPieces(p))),
     )?;
-    say_answer(rt, interval::simple_fraction(x), |rt, p| say_point(rt, p))
-}
-
-fn say_point(rt: &impl Print, p: f64) -> io::Result<()> {
-    say(rt, interval::bits_of(p))
-}
-
-fn say_pieces(rt: &impl Print, pieces: Pieces) -> io::Result<()> {
-    match pieces {
-        Pieces::One(a) => {
-            say(rt, 1)?;
-            say_interval(rt, a)
-        }
-        Pieces::Two(a, b) => {
-            say(rt, 2)?;
-            say_interval(rt, a)?;
-            say_interval(rt, b)
-        }
-        Pieces::Three(a, b, c) => {
-            say(rt, 3)?;
-            say_interval(rt, a)?;
-            say_interval(rt, b)?;
-            say_interval(rt, c)
-        }
-    }
+    say(
+        rt,
+        SaidAnswer(interval::simple_fraction(x).map(|p| SaidNumber(bits_of(p)))),
+    )
 }
 
 // Prints one answer.
 fn ask(rt: &impl Print, q: &[u8; 25]) -> io::Result<()> {
     match question_of(q) {
         Some(Question::Write(x)) => {
-            say_answer(rt, small::write_small(x), |rt, c| say_code(rt, c))?
+            say(rt, SaidAnswer(small::write_small(x).map(|c| SaidCode(c))))?
         }
         Some(Question::Read(code)) => {
-            say_answer(rt, small::read_small(code), |rt, n| say_number(rt, n))?
+            say(rt, SaidAnswer(small::read_small(code).map(|n| SaidRead(n))))?
         }
         Some(Question::Coordinate(c, side)) => ask_coordinate(rt, c, side)?,
         Some(
@@ -166,13 +217,40 @@ fn ask(rt: &impl Print, q: &[u8; 25]) -> io::Result<()> {
                 integer,
             },
         ) => ask_interval(rt, lower, upper, integer)?,
-        Some(Question::Share { settled, pixels }) => say(rt, image::share_of(settled, pixels))?,
+        Some(Question::Share { settled, pixels }) => {
+            say(rt, SaidNumber(image::share_of(settled, pixels)))?
+        }
         None => (),
     }
     println!(rt)
 }
 
+// A question is 25 bytes.
+#[derive(Clone, Copy)]
+struct Record {
+    bytes: [u8; 25],
+}
+
+impl Entry for Record {
+    ghost size = { 25 };
+
+    fn next<R: Read>(from: &mut R) -> io::Result<Option<Record>> {
+        match next_record(from)? {
+            Some(bytes) => Ok(Some(Record { bytes })),
+            None => Ok(None),
+        }
+    }
+
+    fn play<P: Print>(&self, rt: &P) -> io::Result<()> {
+        ask(rt, &self.bytes)
+    }
+}
+
+// The questions of the list, a million at most, and how many there were.
 fn main(rt: HostRuntime) -> io::Result<()> {
     let mut leaves = fs::open(&rt, "leaves")?;
-    ask_all(&rt, &mut leaves, next_record, |q| ask(&rt, &q))
+    match play_entries::<Record, _, _>(&rt, &mut leaves, 1000000)? {
+        Some(asked) => println!(rt; " {asked:x} questions"),
+        None => Ok(()),
+    }
 }

@@ -1,3 +1,4 @@
 -- Laws that the functions' proofs cite.
 pub mod ByteLaws
+pub mod EntryLaws
 pub mod WordLaws

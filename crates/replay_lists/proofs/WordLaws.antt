@@ -7,7 +7,7 @@ use Rattle.std.proofs.Math.ListN.{set}
 use Rattle.std.specs.Int.{w64, to_le_bytes}
 use Rattle.std.specs.Io.KnownBytes.{Consumes}
 use Rattle.stream.proofs.Taken.{Consumes-trans}
-use Rattle.replay_lists.specs.Reading.{ReadsFewer}
+use Rattle.replay_lists.specs.Reading.{Reads, ReadsFewer}
 use borrow.Rule.Slice.PartMut.{put_mid}
 
 -- eight bytes for each
@@ -48,3 +48,7 @@ group_cut a b c words done m n h e before (bytes, few, read) =
     let spelled = flat_map (to_le_bytes w64) (take done words) in
     let long = length-append spelled bytes ∙ ap (λ k. k + length bytes) (words_length (take done words) ∙ ap (λ k. 8 * k) (length-take-le done words h)) in
     (spelled ++ bytes, omega arith, Consumes-trans a b c spelled bytes before read)
+
+-- they are so many bytes
+pub words_read : (a b : Option (List ℕ)) (words : List ℕ) (n : ℕ) → Consumes a b (flat_map (to_le_bytes w64) words) → n ≡ 8 * length words → Reads n a b
+words_read a b words n h e = (flat_map (to_le_bytes w64) words, words_length words ∙ sym e, h)

@@ -1,3 +1,4 @@
 -- The definitions that the contracts cite.
 pub mod Reading
+pub mod Said
 pub mod Words

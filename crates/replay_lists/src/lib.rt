@@ -1,4 +1,4 @@
-// What the replay programs share: reading the lists that they play, and printing what they found.
+// What the replay programs share: reading the lists that they play, and the text of what they found.
 #![tactic(auto)]
 
 pub mod bytes;

@@ -1,24 +1,31 @@
 // Reading a list: its next bytes, its next words, and its entries one after the other.
-ghost use Rattle.std.specs.Prelude.{◌≡◌, ◌<◌, ◌≤◌, ℕ, ◌*◌, length, take, flat_map, ⊤, IsTrue, IfOk, OnErr, MatchOption};
+ghost use Rattle.std.specs.Prelude.{◌≡◌, ◌<◌, ◌≤◌, ℕ, ◌*◌, length, flat_map, IsTrue, IfOk, OnErr, MatchOption};
 ghost use Rattle.std.specs.Int.{w64, to_le_bytes};
-ghost use Rattle.std.specs.Io.KnownBytes.{Consumes, IsAtEnd};
-ghost use Rattle.replay_lists.specs.Reading.{Ends, ReadsFewer};
+ghost use Rattle.std.specs.Io.KnownBytes.{Consumes};
+ghost use Rattle.replay_lists.specs.Reading.{Ends, Reads, ReadsAll, ReadsFewer, ReadsFirst, ReadsSome};
 
+use crate::bytes::first_bytes;
 use std::io;
 use std::io::Read;
 
 /// The next N bytes of a list. Those behind its end are 0.
 pub fn next_bytes<const N: usize, R: Read>(from: &mut R) -> io::Result<[u8; N]>
-    ensures { IfOk result (λ bytes. (n : ℕ) × (n ≤ N) × (n < N → IsAtEnd (R.remaining from.new)) × Consumes (R.remaining from.old) (R.remaining from.new) (take n bytes)) }
+    ensures ok { IfOk result (ReadsFirst N (R.remaining from.old) (R.remaining from.new)) }
+    ensures err { OnErr result (ReadsFewer N (R.remaining from.old) (R.remaining from.new)) }
 {
     let mut bytes = [0u8; N];
-    stream::read_full(from, &mut bytes)?;
-    Ok(bytes)
+    let count = stream::read_full(from, &mut bytes)?;
+    // `read_full` says nothing of the bytes behind those that it read.
+    let all = &bytes[..];
+    Ok(first_bytes(&all[..count]))
 }
 
 /// The next record of N bytes; none where the list ends before it does.
 pub fn next_record<const N: usize, R: Read>(from: &mut R) -> io::Result<Option<[u8; N]>>
-    ensures { IfOk result (λ entry. MatchOption entry (IsAtEnd (R.remaining from.new)) (Consumes (R.remaining from.old) (R.remaining from.new))) }
+    ensures ok { IfOk result (λ entry. MatchOption entry
+        (Ends N (R.remaining from.old) (R.remaining from.new))
+        (Consumes (R.remaining from.old) (R.remaining from.new))) }
+    ensures err { OnErr result (ReadsFewer N (R.remaining from.old) (R.remaining from.new)) }
 {
     let mut bytes = [0u8; N];
     if stream::read_full(from, &mut bytes)? < N {
@@ -41,7 +48,8 @@ fn put_words(words: &mut [u64], bytes: &[u8])
 // Reads 64 words at most, all by one call. Whether the list had them all.
 fn read_group<R: Read>(from: &mut R, words: &mut [u64]) -> io::Result<bool>
     requires { length words.old ≤ 64 }
-    ensures all { IfOk result (λ all. IsTrue all → Consumes (R.remaining from.old) (R.remaining from.new) (flat_map (to_le_bytes w64) words.new)) }
+    ensures all { IfOk result (λ all. IsTrue all
+        → Consumes (R.remaining from.old) (R.remaining from.new) (flat_map (to_le_bytes w64) words.new)) }
     ensures end { IfOk result (λ all. (IsTrue all → ⊥) → Ends (8 * length words.new) (R.remaining from.old) (R.remaining from.new)) }
     ensures err { OnErr result (ReadsFewer (8 * length words.new) (R.remaining from.old) (R.remaining from.new)) }
 {
@@ -56,7 +64,8 @@ fn read_group<R: Read>(from: &mut R, words: &mut [u64]) -> io::Result<bool>
 
 // Reads all of them, in groups.
 fn read_words<R: Read>(from: &mut R, words: &mut [u64]) -> io::Result<bool>
-    ensures all { IfOk result (λ all. IsTrue all → Consumes (R.remaining from.old) (R.remaining from.new) (flat_map (to_le_bytes w64) words.new)) }
+    ensures all { IfOk result (λ all. IsTrue all
+        → Consumes (R.remaining from.old) (R.remaining from.new) (flat_map (to_le_bytes w64) words.new)) }
     ensures end { IfOk result (λ all. (IsTrue all → ⊥) → Ends (8 * length words.new) (R.remaining from.old) (R.remaining from.new)) }
     ensures err { OnErr result (ReadsFewer (8 * length words.new) (R.remaining from.old) (R.remaining from.new)) }
 {
@@ -73,7 +82,9 @@ fn read_words<R: Read>(from: &mut R, words: &mut [u64]) -> io::Result<bool>
 
 /// The next record of N words, of which the least significant byte stands first; none where the list ends before it does.
 pub fn next_words<const N: usize, R: Read>(from: &mut R) -> io::Result<Option<[u64; N]>>
-    ensures ok { IfOk result (λ entry. MatchOption entry (Ends (8 * N) (R.remaining from.old) (R.remaining from.new)) (λ words. Consumes (R.remaining from.old) (R.remaining from.new) (flat_map (to_le_bytes w64) words))) }
+    ensures ok { IfOk result (λ entry. MatchOption entry
+        (Ends (8 * N) (R.remaining from.old) (R.remaining from.new))
+        (λ words. Consumes (R.remaining from.old) (R.remaining from.new) (flat_map (to_le_bytes w64) words))) }
     ensures err { OnErr result (ReadsFewer (8 * N) (R.remaining from.old) (R.remaining from.new)) }
 {
     let mut words = [0u64; N];
@@ -83,39 +94,42 @@ pub fn next_words<const N: usize, R: Read>(from: &mut R) -> io::Result<Option<[u
     Ok(Some(words))
 }
 
-/// Plays the entries of a list, but no more than so many. Answers how many there were; none where so many were played, and more may stand behind them.
-pub fn play_entries<
-    R: Read,
-    E,
-    N: Fn(&mut R) -> io::Result<Option<E>>,
-    P: FnMut(E) -> io::Result<()>,
->(from: &mut R, most: u64, next: N, mut play: P) -> io::Result<Option<u64>>
-    requires next_called { N.IsAlwaysCallable next }
-    requires play_called { P.IsAlwaysCallable play }
-    ensures { IfOk result (λ played. MatchOption played ⊤ (λ n. n < most)) }
-{
-    for played in 0..most {
-        let Some(entry) = next(from)? else {
-            return Ok(Some(played));
-        };
-        play(entry)?;
-    }
-    Ok(None)
+/// What a list holds: entries of one size, each of which is read and then played.
+pub trait Entry: Drop {
+    /// How many bytes one has.
+    ghost size: { ℕ };
+
+    /// The next one; none where the list ends before it does.
+    fn next<R: Read>(from: &mut R) -> io::Result<Option<Self>>
+    where
+        Self: Sized,
+        ensures ok { IfOk result (λ entry. MatchOption entry
+            (Ends size (R.remaining from.old) (R.remaining from.new))
+            (λ _. Reads size (R.remaining from.old) (R.remaining from.new))) }
+        ensures err { OnErr result (ReadsFewer size (R.remaining from.old) (R.remaining from.new)) };
+
+    /// Plays it, and prints what came out.
+    fn play<P: Print>(&self, rt: &P) -> io::Result<()>
+    where
+        Self: Sized;
 }
 
-/// Asks the questions of a list, a million at most, and says how many there were, where that is known.
-pub fn ask_all<
-    P: Print,
-    R: Read,
-    Q,
-    N: Fn(&mut R) -> io::Result<Option<Q>>,
-    A: FnMut(Q) -> io::Result<()>,
->(rt: &P, from: &mut R, next: N, ask: A) -> io::Result<()>
-    requires next_called { N.IsAlwaysCallable next }
-    requires ask_called { A.IsAlwaysCallable ask }
+/// Plays the entries of a list, but no more than so many. Answers how many there were; none where so many were played, and more may stand behind them.
+pub fn play_entries<E: Entry, R: Read, P: Print>(
+    rt: &P,
+    from: &mut R,
+    most: u64,
+) -> io::Result<Option<u64>>
+    ensures ok { IfOk result (λ played. MatchOption played
+        (Reads (most * E.size) (R.remaining from.old) (R.remaining from.new))
+        (λ n. (n < most) × ReadsAll E.size n (R.remaining from.old) (R.remaining from.new))) }
+    ensures err { OnErr result (ReadsSome E.size most (R.remaining from.old) (R.remaining from.new)) }
 {
-    match play_entries(from, 1000000, next, ask)? {
-        Some(asked) => println!(rt; " {asked:x} questions"),
-        None => Ok(()),
+    for played in 0..most {
+        let Some(entry) = E::next(from)? else {
+            return Ok(Some(played));
+        };
+        entry.play(rt)?;
     }
+    Ok(None)
 }

@@ -1,35 +1,63 @@
-// Printing what came out, each part behind a space.
-use interval::Interval;
-use refusal::Refusal;
-use std::io;
+// What came out, as text: each part behind a space.
+ghost use Rattle.std.specs.Prelude.{Some};
+ghost use Rattle.replay_lists.specs.Said.{number_text, refusal_text, interval_text, answer_text};
+
+use interval::{Interval, bits_of};
+use refusal::{Refusal, number_of};
+use std::fmt;
+use std::fmt::{Display, Formatter, Write};
 
 /// A number, in hexadecimal digits.
-pub fn say(rt: &impl Print, n: u64) -> io::Result<()> {
-    print!(rt; " {n:x}")
+#[derive(Clone, Copy)]
+pub struct SaidNumber(pub u64);
+
+impl Display for SaidNumber {
+    ghost output = { λ said. Some (number_text said.0) };
+
+    fn fmt<W: Write>(&self, f: &mut Formatter<W>) -> fmt::Result {
+        let n = self.0;
+        write!(f, " {n:x}")
+    }
 }
 
 /// A refusal's number, behind an r.
-pub fn say_refusal(rt: &impl Print, why: Refusal) -> io::Result<()> {
-    let n = refusal::number_of(why);
-    print!(rt; " r{n:x}")
+#[derive(Clone, Copy)]
+pub struct SaidRefusal(pub Refusal);
+
+impl Display for SaidRefusal {
+    ghost output = { λ said. Some (refusal_text said.0) };
+
+    fn fmt<W: Write>(&self, f: &mut Formatter<W>) -> fmt::Result {
+        let n = number_of(self.0);
+        write!(f, " r{n:x}")
+    }
 }
 
 /// The bit patterns of two bounds.
-pub fn say_interval(rt: &impl Print, x: Interval) -> io::Result<()> {
-    say(rt, interval::bits_of(x.lower))?;
-    say(rt, interval::bits_of(x.upper))
+#[derive(Clone, Copy)]
+pub struct SaidInterval(pub Interval);
+
+impl Display for SaidInterval {
+    ghost output = { λ said. Some (interval_text said.0) };
+
+    fn fmt<W: Write>(&self, f: &mut Formatter<W>) -> fmt::Result {
+        let lower = bits_of(self.0.lower);
+        let upper = bits_of(self.0.upper);
+        write!(f, " {lower:x} {upper:x}")
+    }
 }
 
-/// What was answered, said by a function for it, or the refusal.
-pub fn say_answer<P: Print, T, F: FnOnce(&P, T) -> io::Result<()>>(
-    rt: &P,
-    answer: Result<T, Refusal>,
-    say_found: F,
-) -> io::Result<()>
-    requires { F.IsAlwaysCallable say_found }
-{
-    match answer {
-        Ok(found) => say_found(rt, found),
-        Err(why) => say_refusal(rt, why),
+/// What was found, or the refusal.
+#[derive(Clone, Copy)]
+pub struct SaidAnswer<T>(pub Result<T, Refusal>);
+
+impl<T: Display> Display for SaidAnswer<T> {
+    ghost output = { λ said. answer_text T.output said.0 };
+
+    fn fmt<W: Write>(&self, f: &mut Formatter<W>) -> fmt::Result {
+        match &self.0 {
+            Ok(found) => found.fmt(f),
+            Err(why) => SaidRefusal(*why).fmt(f),
+        }
     }
 }

@@ -5,9 +5,10 @@
 ghost use Rattle.std.specs.Prelude.{◌≤◌, length};
 
 use image::{CellKind, CellTally, Op, PixelRange};
-use replay_lists::list::{next_words, play_entries};
+use replay_lists::list::{Entry, next_words, play_entries};
 use replay_lists::words::{coordinate_at, lower_half};
 use std::io;
+use std::io::Read;
 
 // How many cells a case has, all lent or only the first of them.
 const CELLS: usize = 40;
@@ -172,8 +173,29 @@ fn play(rt: &impl Print, case: &[u64; 56]) -> io::Result<()> {
     show(rt, cells, f.taken)
 }
 
+// A case is 56 words.
+#[derive(Clone, Copy)]
+struct Case {
+    words: [u64; 56],
+}
+
+impl Entry for Case {
+    ghost size = { 448 };
+
+    fn next<R: Read>(from: &mut R) -> io::Result<Option<Case>> {
+        match next_words(from)? {
+            Some(words) => Ok(Some(Case { words })),
+            None => Ok(None),
+        }
+    }
+
+    fn play<P: Print>(&self, rt: &P) -> io::Result<()> {
+        play(rt, &self.words)
+    }
+}
+
 fn main(rt: HostRuntime) -> io::Result<()> {
     let mut cases = rt.reader();
-    play_entries(&mut cases, 4096, next_words, |case| play(&rt, &case))?;
+    play_entries::<Case, _, _>(&rt, &mut cases, 4096)?;
     Ok(())
 }
