@@ -69,6 +69,7 @@ fn read_words<R: Read>(from: &mut R, words: &mut [u64]) -> io::Result<bool>
     ensures end { IfOk result (λ all. (IsTrue all → ⊥) → Ends (8 * length words.new) (R.remaining from.old) (R.remaining from.new)) }
     ensures err { OnErr result (ReadsFewer (8 * length words.new) (R.remaining from.old) (R.remaining from.new)) }
 {
+    // By places: nothing is known of what the parts end as that `chunks_mut` lends.
     let mut done = 0;
     'groups: while done < words.len() {
         let end = done + (words.len() - done).min(64);
