@@ -93,12 +93,17 @@ module _ (s : State) (cells : List ℕ) (n : Tally) (counted : counts_answer s c
 
 -- WHAT EACH ANSWER PRINTS
 
-module _ (o : Order) (tape : List ℕ) (a : Result State Refusal) (is_a : a ≡ setup_answer (cleared o.chosen) o.ranges (length fresh_ring) (length fresh_cells)) where
-  pub text_ready : (s : State) (ring cells : List ℕ) → a ≡ Ok s → ring ≡ ring_begun (cleared o.chosen) o.ranges fresh_ring fresh_cells
-      → cells ≡ cells_begun (cleared o.chosen) o.ranges fresh_ring fresh_cells → ran_text (run_of o.budget (world_of s ring cells) tape) ≡ order_text o tape
+-- of cells that were found fresh
+module _ (o : Order) (tape found : List ℕ) (fresh : found ≡ fresh_cells) (a : Result State Refusal)
+    (is_a : a ≡ setup_answer (cleared o.chosen) o.ranges (length fresh_ring) (length found)) where
+  answer_fresh : setup_answer (cleared o.chosen) o.ranges (length fresh_ring) (length fresh_cells) ≡ a
+  answer_fresh = sym (is_a ∙ ap (λ l. setup_answer (cleared o.chosen) o.ranges (length fresh_ring) (length l)) fresh)
+
+  pub text_ready : (s : State) (ring cells : List ℕ) → a ≡ Ok s → ring ≡ ring_begun (cleared o.chosen) o.ranges fresh_ring found
+      → cells ≡ cells_begun (cleared o.chosen) o.ranges fresh_ring found → ran_text (run_of o.budget (world_of s ring cells) tape) ≡ order_text o tape
   unfolding order_text
-  text_ready s ring cells e r c = let k : setup_answer (cleared o.chosen) o.ranges (length fresh_ring) (length fresh_cells) ≡ Ok s = sym is_a ∙ e in rw (k, r, c)
+  text_ready s ring cells e r c = rw (answer_fresh ∙ e, r, c, fresh)
 
   pub text_not_ready : (why : Refusal) → a ≡ Err why → refused_text why ≡ order_text o tape
   unfolding order_text
-  text_not_ready why e = let k : setup_answer (cleared o.chosen) o.ranges (length fresh_ring) (length fresh_cells) ≡ Err why = sym is_a ∙ e in rw k
+  text_not_ready why e = rw (answer_fresh ∙ e)

@@ -8,15 +8,13 @@ mod why;
 mod write;
 
 ghost use Rattle.std.specs.Prelude.{◌≡◌, [], ◌++◌, ◌≤◌, length, drop, Ok};
-ghost use Rattle.implicit.specs.Step.{world_of};
-ghost use Rattle.implicit.specs.Run.{run_of};
 ghost use Rattle.implicit.specs.View.{counts_answer};
 ghost use Rattle.sheet.specs.Text.{chart_text};
-ghost use Rattle.sheet.specs.ChartComputed.{Prints};
-ghost use Rattle.sheet.specs.Printed.{text_of, order_text, ran_text};
+ghost use Rattle.sheet.specs.ChartComputed.{Prints, ended_text};
+ghost use Rattle.sheet.specs.Printed.{fresh_cells, text_of, order_text};
 
 use head::Order;
-use implicit::{Ended, State, Tally};
+use implicit::{Ended, Tally};
 use refusal::Refusal;
 use text::Text;
 pub use why::explain_sheet;
@@ -27,46 +25,55 @@ pub fn chart_sheet(sheet: &[u8], out: &mut [u8; 8704]) -> usize
     ensures out_after { out.new ≡ text_of sheet.now ++ drop (length (text_of sheet.now)) out.old }
     ensures upper_bound { result ≤ 8704 }
 {
+    let mut cells = [0u64; 4096];
+    let ran = run_sheet(sheet, &mut cells);
+    print_ended(ran, &cells, out)
+}
+
+// What the run of a sheet answers, with the cells that it leaves; or why there is none.
+fn run_sheet(sheet: &[u8], cells: &mut [u64; 4096]) -> Result<Ended, Refusal>
+    requires { cells.old ≡ fresh_cells }
+    ensures { ended_text result cells.new ≡ text_of sheet.now }
+{
+    let o = head::read_order(sheet)?;
+    run_order(o, &sheet[o.tape..], cells)
+}
+
+// The setup and the run. The ring lies in this frame, which ends before text and picture are made: inlined, all would be on the stack at once.
+#[inline(never)]
+fn run_order(o: Order, tape: &[u8], cells: &mut [u64; 4096]) -> Result<Ended, Refusal>
+    requires { cells.old ≡ fresh_cells }
+    ensures { ended_text result cells.new ≡ order_text o tape.now }
+{
+    let mut ring = [0u8; 16384];
+    let s = implicit::setup(o.chosen, o.ranges, &mut ring, cells)?;
+    implicit::run(s, &mut ring, cells, tape, o.budget).map_err(|r| r.why)
+}
+
+// The text of what the run answered, at the start of the buffer. Not inlined, so that the text takes no stack while the run lasts.
+#[inline(never)]
+fn print_ended(ran: Result<Ended, Refusal>, cells: &[u64; 4096], out: &mut [u8; 8704]) -> usize
+    ensures value { result ≡ length (ended_text ran cells.now) }
+    ensures out_after { out.new ≡ ended_text ran cells.now ++ drop (length (ended_text ran cells.now)) out.old }
+    ensures upper_bound { result ≤ 8704 }
+{
     let mut text = Text::new();
-    if let Err(why) = put_sheet(&mut text, sheet) {
+    if let Err(why) = put_ended(&mut text, ran, cells) {
         write::put_refused(&mut text, why);
     }
     text.copy_to(out)
 }
 
-fn put_sheet(text: &mut Text<8704>, sheet: &[u8]) -> Result<(), Refusal>
-    requires { text.old ≡ [] }
-    ensures { Prints result (text_of sheet.now) text.old text.new }
-{
-    let o = head::read_order(sheet)?;
-    put_order(text, o, &sheet[o.tape..])
-}
-
-// The setup, and what follows from it.
-fn put_order(text: &mut Text<8704>, o: Order, tape: &[u8]) -> Result<(), Refusal>
-    requires { text.old ≡ [] }
-    ensures { Prints result (order_text o tape.now) text.old text.new }
-{
-    let mut ring = [0u8; 16384];
-    let mut cells = [0u64; 4096];
-    let s = implicit::setup(o.chosen, o.ranges, &mut ring, &mut cells)?;
-    put_ran(text, s, o.budget, &mut ring, &mut cells, tape)
-}
-
-// The run, and its chart.
-fn put_ran(
+// The counts, and the chart with them.
+fn put_ended(
     text: &mut Text<8704>,
-    s: State,
-    budget: u32,
-    ring: &mut [u8],
-    cells: &mut [u64],
-    tape: &[u8],
+    ran: Result<Ended, Refusal>,
+    cells: &[u64; 4096],
 ) -> Result<(), Refusal>
-    requires start { text.old ≡ [] }
-    requires cells { length cells.old ≡ 4096 }
-    ensures { Prints result (ran_text (run_of budget (world_of s ring.old cells.old) tape.now)) text.old text.new }
+    requires { text.old ≡ [] }
+    ensures { Prints result (ended_text ran cells.now) text.old text.new }
 {
-    let end = implicit::run(s, ring, cells, tape, budget).map_err(|r| r.why)?;
+    let end = ran?;
     let n = implicit::counts(end.state, cells)?;
     put_chart(text, end, n, cells);
     Ok(())

@@ -16,7 +16,7 @@ pub fn explain_sheet(question: &[u8], out: &mut [u8; 160]) -> usize
     ensures out_after { out.new ≡ why_of question.now ++ drop (length (why_of question.now)) out.old }
     ensures upper_bound { result ≤ 160 }
 {
-    // `chart_sheet` ends as this does: one function for both would need the contract of a closure, longer than these lines.
+    // `print_ended` of a chart does as this: one function for both would need the contract of a closure, longer than these lines.
     let mut text = Text::new();
     if let Err(why) = put_why(&mut text, question) {
         put_refused(&mut text, why);
