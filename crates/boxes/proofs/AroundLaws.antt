@@ -16,7 +16,6 @@ use Rattle.interval.specs.Next.{next_below, next_above}
 use Rattle.interval.proofs.Compare.{lt_units}
 use Rattle.interval.proofs.WholeOrder.{le_z_trans}
 use Rattle.interval.proofs.HalfBetween.{rounded_fits}
-use Rattle.interval.proofs.FiniteEnds.{finite_is}
 use Rattle.interval.proofs.ProperPieces.{put_format}
 use Rattle.interval.proofs.Zeros.{as_units, keeps_finite, was_finite}
 use Rattle.interval.proofs.Beside.{next_fits, above_fits, next_lt, above_lt}
@@ -285,6 +284,3 @@ around_format p q r s f =
     cases (all_finite p q r s)
     (λ (e : all_finite p q r s ≡ true). subst InFormat (sym (around_is p q r s e)) (put_format (outside p q r s) (low, high)))
     (λ (e : all_finite p q r s ≡ false). subst InFormat (sym (around_not p q r s e)) line_format)
-
--- std's test of a number, for functions that make it
-pub ruleset finite_rules = (finite_is)

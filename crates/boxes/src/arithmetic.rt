@@ -2,14 +2,13 @@
 ghost use Rattle.std.specs.Prelude.{◌≡◌};
 ghost use Rattle.boxes.specs.Arithmetic.{finite_bounds, lesser, greater, least_of, greatest_of, around, plus, negative, minus, times, over};
 
-use interval::{Interval, next_above, next_below, put, whole_line};
+use interval::{Interval, is_finite, next_above, next_below, put, whole_line};
 
 // Whether both bounds are numbers.
-#[tactic(auto, using(crate::proofs::AroundLaws::finite_rules))]
 pub(crate) fn has_finite_bounds(x: Interval) -> bool
     ensures { result ≡ finite_bounds x }
 {
-    x.lower.is_finite() & x.upper.is_finite()
+    is_finite(x.lower) & is_finite(x.upper)
 }
 
 // The contract says which of two equal zeros is answered; of `f64::min` and `f64::max` either may come.
@@ -40,11 +39,11 @@ fn greatest(p: f64, q: f64, r: f64, s: f64) -> f64
 }
 
 // Outward from four candidates; the whole line where one is no number.
-#[tactic(auto, using(crate::proofs::AroundLaws::finite_rules), unfolding(crate::specs::Arithmetic::around))]
+#[tactic(auto, unfolding(crate::specs::Arithmetic::around))]
 fn outward(p: f64, q: f64, r: f64, s: f64) -> Interval
     ensures { result ≡ around p q r s }
 {
-    if p.is_finite() & q.is_finite() & r.is_finite() & s.is_finite() {
+    if is_finite(p) & is_finite(q) & is_finite(r) & is_finite(s) {
         let lower = next_below(least(p, q, r, s));
         let upper = next_above(greatest(p, q, r, s));
         put(Interval { lower, upper })
@@ -97,7 +96,7 @@ pub(crate) fn mul(x: Interval, y: Interval) -> Interval
 }
 
 // x over y, for a y above zero.
-#[tactic(auto, using(crate::proofs::AroundLaws::finite_rules), unfolding(crate::specs::Arithmetic::over))]
+#[tactic(auto, unfolding(crate::specs::Arithmetic::over))]
 pub(crate) fn div(x: Interval, y: Interval) -> Interval
     ensures { result ≡ over x y }
 {
@@ -105,7 +104,7 @@ pub(crate) fn div(x: Interval, y: Interval) -> Interval
     let b = x.upper;
     let c = y.lower;
     let d = y.upper;
-    if c.is_finite() & d.is_finite() & (0.0 < c) {
+    if is_finite(c) & is_finite(d) & (0.0 < c) {
         outward(a / c, a / d, b / c, b / d)
     } else {
         whole_line()

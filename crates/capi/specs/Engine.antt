@@ -27,7 +27,7 @@ use Rattle.implicit.specs.View.{if_done}
 use Rattle.implicit.specs.Tiled.{tiled_setup_answer, tiled_ring_begun, tiled_cells_begun, table_begun, tiled_step_of, table_after, tiled_run_of, table_run}
 use Rattle.implicit.specs.Tiled.{fill_answer, table_filled}
 use Rattle.implicit.specs.Move.{move_of, move_answer, other_after}
-use Rattle.implicit.specs.Answers.{setup_number, setup_state, needed_number, needed_bytes, move_number, move_state, step_number, step_state, step_evaluations, step_verdicts, run_number, run_state, run_steps, run_evaluations, run_tape, run_stop, counts_number, counts_values}
+use Rattle.implicit.specs.Answers.{setup_number, setup_state, needed_number, needed_bytes, move_number, move_state, step_number, step_state, step_evaluations, step_verdicts, run_number, run_state, run_steps, run_evaluations, run_tape, run_stop, children_number, counts_number, counts_values}
 use Rattle.capi.specs.declared.records.Coordinate.{Coordinate}
 use Rattle.capi.specs.declared.records.Child.{Child}
 use Rattle.capi.specs.declared.records.Started.{Started}
@@ -106,9 +106,12 @@ list_record refusal k = record { refusal = refusal; count = k.count; at = map ch
 abbrev pub no_children : Children
 no_children = listed no_block []
 
+abbrev pub children_values : Result Children Refusal → Children
+children_values (Ok k) = k
+children_values (Err why) = no_children
+
 abbrev pub children_record : Result Children Refusal → Listed
-children_record (Ok k) = list_record 0 k
-children_record (Err why) = list_record (number why) no_children
+children_record a = list_record (children_number a) (children_values a)
 
 -- WITH A TABLE: document 02, (iv). Each by the record, ring, cells and table that the call is lent, and then its verdicts or its tape
 

@@ -220,7 +220,7 @@ pub less_more : (n : ℕ) → 0 < n → n - 1 + 1 ≡ n
 less_more n h = omega arith
 
 module _ (width : ℕ) (r : PixelRange) (l : List ℕ) (h : ReadyRows width r (length l)) (s : tile_shaped r ≡ true) where
-  tile_right : r.right ≡ r.left + 16
+  pub tile_right : r.right ≡ r.left + 16
   tile_right =
       omega (arith, h.across, T.eqb-true (r.right - r.left) 16 (and_left (eqb (r.right - r.left) 16) (leb (r.bottom - r.top) 16) s))
 
@@ -246,7 +246,7 @@ module _ (width : ℕ) (r : PixelRange) (l : List ℕ) (h : ReadyRows width r (l
         tile_cells k (row + 1) (omega arith),
       )
 
-  tile_all : length (rows_from width r l r.top) ≡ 16 * (r.bottom - r.top)
+  pub tile_all : length (rows_from width r l r.top) ≡ 16 * (r.bottom - r.top)
   tile_all = tile_cells (r.bottom - r.top) r.top (omega (arith, h.down))
 
   pub tile_small : (taken : ℕ) → packed_tally (tallied taken (held_cells width r (meanings l))) < 536870912

@@ -83,7 +83,9 @@ fn root_block(p: Chosen, ranges: Ranges) -> Block
     )
 }
 
-// The pieces of a parameter's range.
+// The pieces of a parameter's range. Called, not compiled into its callers: there the compiler clears all that they build of it by the C library's `memset`,
+// which the archive asks of nobody.
+#[inline(never)]
 fn pieces_of(set: u8, d: Direction, range: Interval) -> Result<Pieces, Refusal>
     ensures { result ≡ pieces_kept set d range }
 {

@@ -1,7 +1,7 @@
 -- std's test of a number, and the kinds of interval by it: what each kind says of the bounds.
 -- Assumes nothing.
-use Rattle.std.proofs.Common.{◌≡◌, Bool, true, false, cond, T, sym, refl, ap, ◌∙◌}
-use lib.Ieee.{Float, nan, inf, fin}
+use Rattle.std.proofs.Common.{◌≡◌, Bool, true, false, cond, ◌&&◌, T, sym, refl, ap, ◌∙◌}
+use lib.Ieee.{Float, nan, inf, fin, neg, lt}
 use lib.Ieee.Scale.{finite}
 use Rattle.std.specs.Float.{float_is_finite}
 use Rattle.base.proofs.Test.{≡→T, and_both}
@@ -15,6 +15,23 @@ unfolding float_is_finite
 finite_is nan = refl
 finite_is (inf s) = refl
 finite_is (fin s m e) = refl
+
+-- and so is the test by order, -inf < x < +inf
+pub finite_test : (x i j : Float) → i ≡ inf false → j ≡ inf false → lt (neg i) x && lt x j ≡ finite x
+finite_test x i j p q = ap (λ (z : Float). lt (neg z) x && lt x j) p ∙ ap (λ (z : Float). lt (neg (inf false)) x && lt x z) q ∙ go x
+  where
+    go : (x : Float) → lt (neg (inf false)) x && lt x (inf false) ≡ finite x
+    go nan = unfold lt neg in refl
+    go (inf true) = unfold lt neg in refl
+    go (inf false) = unfold lt neg in refl
+    go (fin s m e) = unfold lt neg in refl
+
+-- the same by std's names of both infinities
+pub finite_order : (x : Float) → lt (inf true) x && lt x (inf false) ≡ finite x
+finite_order nan = unfold lt in refl
+finite_order (inf true) = unfold lt in refl
+finite_order (inf false) = unfold lt in refl
+finite_order (fin s m e) = unfold lt in refl
 
 -- what a kind carries is finite
 pub kind_ends : (a b : Float) → T (finite_ends (kind_of a b))

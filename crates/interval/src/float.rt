@@ -1,4 +1,4 @@
-// What the crates need of single f64s: the neighbours, the put zeros, half of a sum, and rounding to whole.
+// What the crates need of single f64s: the tests, the neighbours, the put zeros, half of a sum, and rounding to whole.
 ghost use Rattle.std.specs.Prelude.{◌≡◌, true, false, ◌&&◌, T, pos};
 ghost use Rattle.std.specs.Float.{inf, fin, binary64};
 ghost use Rattle.std.specs.Float.Ieee.{lt, nan_bits};
@@ -7,11 +7,19 @@ ghost use Rattle.interval.specs.Bounds.{plus_zero, minus_zero, whole_bound};
 ghost use Rattle.interval.specs.Middle.{half_sum, whole_near, whole_if};
 ghost use Rattle.interval.specs.Next.{next_below, next_above};
 
+// Whether x is a number: no infinity and no NaN. By order: std's `is_finite` subtracts, and of an infinity that raises the processor's flag of an invalid
+// operation, on which a caller may have set a trap.
+pub fn is_finite(x: f64) -> bool
+    ensures { result ≡ finite x }
+{
+    (f64::NEG_INFINITY < x) & (x < f64::INFINITY)
+}
+
 // The next number below a finite x; what is not finite stays as it is, where `next_down` takes +inf to the largest number.
 pub fn next_below(x: f64) -> f64
     ensures { result ≡ next_below x }
 {
-    if !x.is_finite() {
+    if !is_finite(x) {
         return x;
     }
     if x > 0.0 {
@@ -58,7 +66,7 @@ pub(crate) fn half_sum(a: f64, b: f64) -> f64
     ensures { result ≡ half_sum a b }
 {
     let s = a + b;
-    if s.is_finite() {
+    if is_finite(s) {
         plus_zero(s * 0.5)
     } else {
         plus_zero(a * 0.5 + b * 0.5)

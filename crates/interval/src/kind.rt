@@ -8,7 +8,7 @@ ghost use Rattle.interval.specs.KindsComputed.{finite_ends};
 ghost use Rattle.interval.specs.Cuts.{subdivisible};
 
 use crate::Interval;
-use crate::float::{half_sum, plus_zero, whole_if};
+use crate::float::{half_sum, is_finite, plus_zero, whole_if};
 
 // Which ends are finite, with those that are.
 #[derive(Clone, Copy, Debug, PartialEq)]
@@ -20,14 +20,14 @@ pub enum Kind {
 }
 
 // The kind of an interval.
-#[tactic(auto, using(crate::proofs::FiniteEnds::finite_is), unfolding(crate::specs::Kinds::kind_of))]
+#[tactic(auto, unfolding(crate::specs::Kinds::kind_of))]
 pub(crate) fn kind_of(x: Interval) -> Kind
     ensures kind { result ≡ kind_of x.lower x.upper }
     ensures ends { T (finite_ends result) }
 {
     let a = x.lower;
     let b = x.upper;
-    match (a.is_finite(), b.is_finite()) {
+    match (is_finite(a), is_finite(b)) {
         (true, true) => Kind::Between(a, b),
         (true, false) => Kind::From(a),
         (false, true) => Kind::UpTo(b),

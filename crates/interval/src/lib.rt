@@ -22,7 +22,7 @@ mod float;
 mod fraction;
 mod kind;
 
-pub use float::{next_above, next_below};
+pub use float::{is_finite, next_above, next_below};
 
 // The bounds of an interval.
 #[repr(C)]

@@ -10,24 +10,23 @@ use mathlib.Core.List.{List, [], ◌++◌}
 use Prim.Native.Nat.{ℕ, ◌+◌, ◌-◌, ◌≤◌, ◌<◌}
 use native.Mathlib.Omega.{arith}
 use native.Mathlib.Nat.{zero-add}
-use lib.ListN.{length, drop}
-use lib.Seq.{sets, length-sets}
-use borrow.Rule.Slice.PartMut.{put_mid}
+use lib.ListN.{length, take}
+use lib.Seq.{sets, take_all}
 use borrow.Author.Tests.{lt-ltb}
 use Rattle.queue.specs.Ring.{older_stretch, newer_stretch, content, fits_ring, stored}
 use Rattle.queue.specs.Answers.{copied_number}
 use Rattle.queue.specs.Queue.{copied, if_copied, copied_ring}
 use Rattle.queue.proofs.RingLaws.{content_length, content_store, stored_straight}
-use Rattle.queue.proofs.WriteLaws.{sets_append, part_put, front_put}
+use Rattle.queue.proofs.WriteLaws.{sets_append}
 use Rattle.queue.proofs.QueueAnswers.{fits_both}
 
 -- one stretch stored from byte 0 on, and another behind it
-pub store_both : (ring o n o₁ n₁ : List ℕ) (k : ℕ) → o₁ ≡ o → n₁ ≡ n → k ≡ length n → length o + length n ≤ length ring
-    → put_mid (length o) k (o₁ ++ drop (length o) ring) n₁ ≡ sets ring 0 (o ++ n)
-store_both ring o n o₁ n₁ k e f g h =
-    let front = front_put ring o o₁ (length o) e refl (omega arith) in
-    rw front (part_put (sets ring 0 o) n n₁ (length o) k f g (simp length-sets h))
-    ∙ ap (λ (at : ℕ). sets (sets ring 0 o) at n) (sym (zero-add (length o))) ∙ sets_append o n ring 0
+pub store_both : (ring o n ring₁ ring₂ : List ℕ) → ring₁ ≡ sets ring 0 (take (length o) o)
+    → ring₂ ≡ sets ring₁ (length o) (take (length n) n)
+    → ring₂ ≡ sets ring 0 (o ++ n)
+store_both ring o n ring₁ ring₂ e f =
+    f ∙ rw (e, take_all (length o) o (omega arith), take_all (length n) n (omega arith))
+    (ap (λ (at : ℕ). sets (sets ring 0 o) at n) (sym (zero-add (length o))) ∙ sets_append o n ring 0)
 
 module _ (ring : List ℕ) (head used : ℕ) (other : List ℕ) where
   pub copy_outside : fits_ring (length ring) head used ≡ false

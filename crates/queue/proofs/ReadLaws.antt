@@ -12,8 +12,8 @@ use native.Mathlib.Decide.{dec_lt}
 use native.Mathlib.Nat.{add-zero}
 use native.Mathlib.Numerals.{add-one}
 use lib.Bits.{bit_xor}
-use lib.ListN.{length, get_or, take, drop, set, length-drop, drop_of_length-le}
-use lib.Seq.{take-suc, take-suc-set, drop-cons, drop-drop, take_all, get_or-drop}
+use lib.ListN.{length, get_or, take, drop, set, length-drop, drop_of_length-le, get_or-append}
+use lib.Seq.{take-suc, take-suc-set, drop-cons, drop-drop, take_all, get_or-drop, get_or-append-add}
 use borrow.Author.Tests.{ne_eqb}
 use Rattle.base.specs.Bytes.{of_big_endian, of_big_endian_from}
 use Rattle.base.proofs.BytesLaws.{big_more}
@@ -28,6 +28,17 @@ use Rattle.queue.specs.Decode.{bounds_of, level_of, level_read, coordinate_with,
 use Rattle.queue.proofs.RingLaws.{part_front}
 
 -- ---- the bytes of the two stretches
+
+-- numbers that are bytes, in each stretch and so in both
+pub both_bytes : (o n : List ℕ) → ((i : ℕ) → get_or o i 0 < 256) → ((i : ℕ) → get_or n i 0 < 256) → (i : ℕ)
+    → get_or (o ++ n) i 0 < 256
+both_bytes o n f g i =
+    elim (dec_lt i (length o)) [
+      | yes h ↦ rw (get_or-append o n 0 i h) (f i)
+      | no h ↦
+          let e : i ≡ length o + (i - length o) = omega arith in
+          rw (ap (λ (j : ℕ). get_or (o ++ n) j 0) e ∙ get_or-append-add o n (i - length o) 0) (g (i - length o))
+    ]
 
 -- bytes further on
 pub later_bytes : (s : List ℕ) (at : ℕ) → ((i : ℕ) → get_or s i 0 < 256) → (i : ℕ) → get_or (drop at s) i 0 < 256

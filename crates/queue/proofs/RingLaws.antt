@@ -14,7 +14,7 @@ use native.Mathlib.Numerals.{add-one}
 use lib.Dec.{eqb}
 use lib.ListN.{length, get_or, take, drop, set, length-drop, length-take, length-set, length-append, drop_of_length-le}
 use lib.ListN.{get_or-append}
-use lib.Seq.{sets, length-sets, take_all, get_or-drop, get_or-append-add, drop-set-add, drop-append-le, drop-append-add}
+use lib.Seq.{sets, length-sets, take_all, drop-cons, get_or-drop, get_or-append-add, drop-set-add, drop-append-le, drop-append-add}
 use lib.Seq.{take-append-le, take-nil, drop-drop, drop-set-lt, take-suc-set, drop-length, get_or-set_other}
 use borrow.Author.Tests.{lt-ltb, le-ltb, eq-eqb, ne_eqb}
 use Rattle.base.proofs.Test.{by_ltb}
@@ -138,6 +138,15 @@ pub length_stored : (bs ring : List ℕ) (p : ℕ) → length (stored ring p bs)
 unfolding stored
 length_stored [] ring p = refl
 length_stored (b ∷ bs) ring p = length_stored bs (set ring p b) (next (length ring) p) ∙ length-set ring p b
+
+-- one byte stored of those that are left
+pub straight_step : (ring source : List ℕ) (p i count : ℕ) → i < count → count ≤ length source
+    → sets (set ring p (get_or source i 0)) (p + 1) (take (count - (i + 1)) (drop (i + 1) source))
+    ≡ sets ring p (take (count - i) (drop i source))
+straight_step ring source p i count h k =
+    let e : count - i ≡ suc (count - (i + 1)) = omega arith in
+    let inside : i < length source = omega arith in
+    rw (drop-cons source i 0 inside, e, add-one i, add-one p)
 
 -- bytes that do not reach the end are stored in a row
 pub stored_straight : (bs ring : List ℕ) (p : ℕ) → p + length bs ≤ length ring → stored ring p bs ≡ sets ring p bs

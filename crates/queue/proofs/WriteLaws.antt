@@ -2,7 +2,7 @@
 -- part is. Assumes nothing.
 use Rattle.std.specs.Int.{w64, to_be_bytes}
 use Rattle.std.proofs.Math.Nat.{div-div-eq-div-mul}
-use mathlib.Core.Path.{◌≡◌, refl, sym, ◌∙◌}
+use mathlib.Core.Path.{◌≡◌, refl, sym, ap, ◌∙◌}
 use mathlib.Core.Bool.{Bool, true, false, not, cond, true≢false, false≢true}
 use mathlib.Core.List.{List, [], ◌∷◌, ◌++◌, append_assoc}
 use Prim.Native.Nat.{ℕ, suc, ◌+◌, ◌-◌, ◌*◌, ◌/◌, ◌%◌, ◌^◌, ◌≤◌, ◌<◌}
@@ -12,7 +12,7 @@ use native.Mathlib.Numerals.{add-one}
 use lib.Bits.{bit_xor, xor_lt}
 use lib.Ieee.{binary64, to_bits}
 use lib.ListN.{length, take, drop, set, length-append}
-use lib.Seq.{sets, sets-eq, take_at, take-suc-set, drop-drop}
+use lib.Seq.{sets, sets-eq, set_comm, take_at, take-suc-set, drop-drop}
 use borrow.Rule.Slice.PartMut.{put_mid}
 use Rattle.base.specs.Bytes.{little_endian, big_endian}
 use Rattle.base.proofs.BytesLaws.{length_big}
@@ -38,6 +38,14 @@ pub sets_append : (vs ws l : List ℕ) (at : ℕ) → sets (sets l at vs) (at + 
 sets_append [] ws l at = rw add-zero
 sets_append (v ∷ vs) ws l at =
     let e : at + suc (length vs) ≡ suc at + length vs = omega arith in rw e (sets_append vs ws (set l at v) (suc at))
+
+-- the last of some bytes stored first
+pub sets_last : (vs l : List ℕ) (at b : ℕ) → sets (set l (at + length vs) b) at vs ≡ sets l at (vs ++ (b ∷ []))
+sets_last [] l at b = rw add-zero
+sets_last (v ∷ vs) l at b =
+    let e : at + suc (length vs) ≡ suc at + length vs = omega arith in
+    ap (λ (k : List ℕ). sets k (suc at) vs) (set_comm l (at + suc (length vs)) at b v (λ q. omega arith))
+    ∙ rw e (sets_last vs (set l at v) (suc at) b)
 
 -- the front of a buffer that bytes were stored at
 pub take_sets : (vs l : List ℕ) → length vs ≤ length l → take (length vs) (sets l 0 vs) ≡ vs

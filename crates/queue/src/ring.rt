@@ -1,6 +1,6 @@
 // The ring: a lent byte buffer, the position of its first used byte (head) and the number of bytes used.
 // What it holds lies in two stretches: the older from the head on, the newer from byte 0 on.
-ghost use Rattle.std.specs.Prelude.{◌≡◌, ◌+◌, ◌^◌, ◌≤◌, ◌<◌, length, get_or, slice_get};
+ghost use Rattle.std.specs.Prelude.{◌≡◌, ◌+◌, ◌^◌, ◌≤◌, ◌<◌, length, get_or, slice_get, take};
 ghost use Rattle.std.proofs.lemmas.List.Edits.{sets};
 ghost use Rattle.queue.specs.Ring.{part_of, behind, part_place, fits_ring, older_stretch, newer_stretch, stored, wrapped};
 ghost use Rattle.queue.specs.RingComputed.{bytes};
@@ -104,12 +104,23 @@ pub(crate) fn store(ring: &mut [u8], from: usize, source: &[u8])
     ring[..source.len() - room].copy_from_slice(&source[room..]);
 }
 
+// Stores the first `count` bytes of `source` in a row. Byte by byte: `copy_from_slice` between two buffers of a caller is a call of the C library's `memmove`,
+// which the archive asks of nobody.
+fn store_straight(ring: &mut [u8], from: usize, source: &[u8], count: usize)
+    requires { (from + count ≤ length ring.old) × (count ≤ length source.now) }
+    ensures { ring.new ≡ sets ring.old from (take count source.now) }
+{
+    for i in 0..count {
+        ring[from + i] = source[i];
+    }
+}
+
 // Stores both stretches from byte 0 on, one behind the other.
 pub(crate) fn store_stretches(ring: &mut [u8], held: Stretches<'_>)
     requires { length (bytes held) ≤ length ring.old }
     ensures { ring.new ≡ sets ring.old 0 (bytes held.entry) }
 {
-    let middle = held.older.len();
-    ring[..middle].copy_from_slice(held.older);
-    ring[middle..middle + held.newer.len()].copy_from_slice(held.newer);
+    let Stretches { older, newer } = held;
+    store_straight(ring, 0, older, older.len());
+    store_straight(ring, older.len(), newer, newer.len());
 }

@@ -54,7 +54,9 @@ impl Tested {
     }
 
     // Both sides remember a block.
-    fn recall(&mut self, rec: &Record) {
+    fn recall(&mut self, rec: &Record)
+        ensures { self.new.len ≡ self.old.len }
+    {
         let last = remember(block_at(rec, 8));
         self.front = last;
         self.back = last;
@@ -70,7 +72,8 @@ impl Tested {
 
     // A block appended: whether the answer is the record's.
     fn appends(&mut self, rec: &Record) -> bool
-        ensures { result ≡ append_agrees rec.now self.old }
+        ensures agrees { result ≡ append_agrees rec.now self.old }
+        ensures same_len { self.new.len ≡ self.old.len }
     {
         let measured = self.measures(rec);
         // Lent from a variable and put back: no proof is made where a part of a struct with an invariant is lent to be changed.
@@ -93,7 +96,8 @@ impl Tested {
 
     // The front block taken: whether the answer is the record's.
     fn takes(&mut self, rec: &Record) -> bool
-        ensures { result ≡ take_agrees rec.now self.old }
+        ensures agrees { result ≡ take_agrees rec.now self.old }
+        ensures same_len { self.new.len ≡ self.old.len }
     {
         let answer = queue::take(
             &self.buffer[..self.len],

@@ -1,11 +1,18 @@
 -- The decimal text of a 64-bit number is std's. Assumes nothing.
-use Rattle.std.proofs.Common.{◌≡◌, ℕ, zero, suc, ◌+◌, ◌*◌, ◌/◌, ◌%◌, ◌^◌, ◌≤◌, ◌<◌, List, [], ◌∷◌, ◌++◌, sym, ap, ◌∙◌, inl, inr, add-one, arith}
+use Rattle.std.proofs.Common.{◌≡◌, ℕ, zero, suc, ◌+◌, ◌*◌, ◌/◌, ◌%◌, ◌^◌, ◌≤◌, ◌<◌, List, [], ◌∷◌, ◌++◌, refl, sym, ap, ◌∙◌, inl, inr, add-one, arith}
 use Rattle.std.proofs.Math.Nat.{div-div-eq-div-mul, div-lt_iff_lt-mul, le-div_iff_mul-le, pow-suc, pow-succ'}
 use Rattle.std.proofs.lemmas.Bool.{cases_lt}
 use Rattle.std.proofs.lemmas.Fmt.{decimal_by_steps}
 use Rattle.std.specs.Fmt.{decimal}
+use Rattle.std.specs.Prelude.{length}
 use borrow.Author.Tests.{lt-ltb, le-ltb}
 use Rattle.sheet.specs.Decimal.{digit_at, digits_below, places_from, digit_count, decimal_text}
+
+-- so many digits take so many bytes
+pub length_digits : (k n : ℕ) → length (digits_below k n) ≡ k
+unfolding digits_below
+length_digits zero n = refl
+length_digits (suc k) n = ap suc (length_digits k n)
 
 -- a number's digits are those of its tenth part, and the last
 digits_up : (k n : ℕ) → digits_below (suc k) n ≡ digits_below k (n / 10) ++ ((48 + n % 10) ∷ [])

@@ -93,6 +93,21 @@ ranges_read s set m n theta t tape e f g h i =
       rw (i, h') (drop-drop (range_bytes set D.T) at.t s),
     )
 
+-- the head has at least nine bytes, and each range ends where the next begins, the last where the tape begins
+pub places_least : (set : ℕ) → 9 ≤ (places_in set).tape
+unfolding places_in
+places_least set = omega arith
+
+pub record PlacesFit (set room : ℕ) : Type 0 where
+  pub m : 9 + range_bytes set D.M ≤ room
+  pub n : (places_in set).n + range_bytes set D.N ≤ room
+  pub theta : (places_in set).theta + range_bytes set D.Theta ≤ room
+  pub t : (places_in set).t + range_bytes set D.T ≤ room
+
+pub places_fit : (set room : ℕ) → (places_in set).tape ≤ room → PlacesFit set room
+unfolding places_in
+places_fit set room h = record { m = omega arith; n = omega arith; theta = omega arith; t = omega arith }
+
 -- where the tape begins
 pub tape_at : (set : ℕ) → (places_in set).tape ≡ 9 + range_bytes set D.M + range_bytes set D.N + range_bytes set D.Theta + range_bytes set D.T
 unfolding places_in

@@ -98,6 +98,21 @@ zeros_few s p h = omega (arith, zeros_lt 8 (get_or s 0 0) p h)
 pub read_inside : (s : List ℕ) (n : Number) → read_small s ≡ Ok n → n.count ≤ length s
 read_inside s n e = (number_whole s n e).inside
 
+pub read_some : (s : List ℕ) (n : Number) → read_small s ≡ Ok n → 1 ≤ n.count
+read_some s n e = omega (arith, (number_whole s n e).zeros)
+
+pub read_few : (s : List ℕ) (n : Number) → read_small s ≡ Ok n → get_or s 0 0 < 256 → n.count ≤ 8
+read_few s n e h = let w : Whole s n = number_whole s n e in omega (arith, w.zeros, zeros_few s w.head h)
+
+-- eight bytes are enough for any code
+pub read_ends : (s : List ℕ) → read_small s ≡ Err R.EndsEarly → get_or s 0 0 < 256 → length s < 8
+read_ends s =
+    by_read (λ (r : Result Number Refusal). r ≡ Err R.EndsEarly → get_or s 0 0 < 256 → length s < 8) s
+    (λ h e b. omega arith)
+    (λ h g e b. absurd (let z : ◌≡◌ {A = ℕ} 0 1 = cc in omega arith))
+    (λ h g e b. omega (arith, zeros_few s h b))
+    (λ h g e b. no_number _ _ (sym e))
+
 -- more bytes behind change no number
 pub read_more : (s rest : List ℕ) (n : Number) → read_small s ≡ Ok n → read_small (s ++ rest) ≡ Ok n
 read_more s rest n e = go s (number_whole s n e)
@@ -176,6 +191,13 @@ module _ (s rest : List ℕ) (head h t : ℕ) (e : head ∷ rest ≡ s) (p : hea
   word_read inside =
       ap (λ (v : ℕ). Ok (record { x = v; count = count_trailing_zeros 8 head + 1 })) word_value
       ∙ sym (rw (← e) (read_whole (head ∷ rest) p (omega arith)))
+
+-- a number that was read is below 2^(7n), n the bytes of its code, and so below 2^56
+pub read_under : (s : List ℕ) (n : Number) → read_small s ≡ Ok n → AreBytes s → n.x < 2 ^ (7 * n.count)
+read_under s n e h = let w : Whole s n = number_whole s n e in rw (w.value, w.zeros) (value_lt s w.head h)
+
+pub read_under_56 : (s : List ℕ) (n : Number) → read_small s ≡ Ok n → AreBytes s → n.x < 2 ^ 56
+read_under_56 s n e h = let w : Whole s n = number_whole s n e in rw w.value (value_fits s w.head h)
 
 -- ---- what was written is read
 

@@ -62,7 +62,16 @@ bytes_right x z e = subst (Right x) e (tail_right x)
 refused_right : (x : ℕ) (r : Refusal) → tail_of x ≡ Err r → (r ≡ R.TooLarge) × (2 ^ 56 ≤ x)
 refused_right x r e = subst (Right x) e (tail_right x)
 
--- what is in no range is refused
+-- what is in the range of z takes z tail bytes, and what is in none is refused
+pub tail_in : (x z : ℕ) → InRange x z → tail_of x ≡ Ok z
+tail_in x z r = go (tail_of x) refl
+  where
+    go : (t : Result ℕ Refusal) → tail_of x ≡ t → t ≡ Ok z
+    go (Ok m) e =
+        let q : InRange x m = bytes_right x m e in
+        let same : m ≡ z = omega (arith, no_more x m z q r.below, no_more x z m r q.below) in ap Ok same
+    go (Err w) e = absurd (omega (arith, (refused_right x w e).1, under_56 x z r))
+
 pub tail_refuses : (x : ℕ) → 2 ^ 56 ≤ x → tail_of x ≡ Err R.TooLarge
 tail_refuses x h = go (tail_of x) refl
   where

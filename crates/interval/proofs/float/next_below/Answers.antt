@@ -4,24 +4,23 @@ use lib.Ieee.{binary64, fits, nan_bits, of_bits}
 use lib.Ieee.Scale.{finite}
 use denote.Floats.{passes}
 use Rattle.base.proofs.Test.{≡→T}
-use Rattle.interval.proofs.FiniteEnds.{finite_is}
 use Rattle.interval.proofs.NextBelow.{finite_number, next_itself, next_plus, next_minus, next_nought, bits_minus, bits_plus}
 use Rattle.interval.proofs.float.next_below.Lts
 use Rattle.interval.proofs.float.next_below.Reads
 use Rattle.interval.proofs.float.next_below.Tie
 use Rattle.interval.proofs.float.next_below.Goals as goal
 
-abbrev start : Lts.Else1 Tie.the-claims Reads.Pre Reads.Post Tie.handed_clauses → Lts.Start Tie.the-claims Reads.Pre Reads.Post Tie.handed_clauses
+abbrev start : Lts.Else1 Tie.the-claims Reads.Pre Reads.Post → Lts.Start Tie.the-claims Reads.Pre Reads.Post
 start c = c.before.before
 
-held : (c : Lts.Else1 Tie.the-claims Reads.Pre Reads.Post Tie.handed_clauses) → T (fits binary64 (start c).args.x)
+held : (c : Lts.Else1 Tie.the-claims Reads.Pre Reads.Post) → T (fits binary64 (start c).args.x)
 held c = passes (fits binary64 (start c).args.x) (start c).well_formed.0.1
 
-number : (c : Lts.Else1 Tie.the-claims Reads.Pre Reads.Post Tie.handed_clauses) → T (finite (start c).args.x)
-number c = ≡→T (sym (c.is_finite.ensures.value ∙ finite_is _) ∙ c.if-not-is_finite.false)
+number : (c : Lts.Else1 Tie.the-claims Reads.Pre Reads.Post) → T (finite (start c).args.x)
+number c = ≡→T (sym c.is_finite.ensures ∙ c.if-not-is_finite.false)
 
 pub returns-then-not-is_finite : goal.returns-then-not-is_finite
-returns-then-not-is_finite c = next_itself c.args.x (sym (c.is_finite.ensures.value ∙ finite_is _) ∙ c.if-not-is_finite.true)
+returns-then-not-is_finite c = next_itself c.args.x (sym c.is_finite.ensures ∙ c.if-not-is_finite.true)
 
 pub float_to_bits-result : goal.float_to_bits-result
 float_to_bits-result c = finite_number (start c.before).args.x (number c.before)

@@ -1,0 +1,2 @@
+-- Laws about the counting.
+pub mod CountingLaws
