@@ -82,6 +82,8 @@ fn cut_along(p: Chosen, b: Block, along: Option<Direction>) -> Cut
 {
     match along {
         Some(Direction::XY) => cut_quarters(p, b.x, b.y),
+        // By itself: a real range has three pieces whatever its cut, which is then not made. A cut that overflows raises the processor's flag.
+        Some(Direction::T) => cut_parameter(Direction::T, b.t, false),
         Some(d) => cut_parameter(d, parameter_of(b, d), is_integer(d)),
         None => Cut {
             along,

@@ -19,9 +19,14 @@ returns-in-Some-XY c =
     c.cut_quarters.ensures
     ∙ cut_quartered c.args.p c.args.b c.args.along c.requires.0 c.requires.1 (search rules)
 
+pub returns-in-Some-T : goal.returns-in-Some-T
+returns-in-Some-T c =
+    c.cut_parameter.ensures
+    ∙ cut_pieces c.args.p c.args.b c.args.along c.requires.0 c.requires.1 D.T (search rules) (search rules)
+
 pub returns-in-Some : goal.returns-in-Some
 returns-in-Some c =
-    c.cut_parameter.ensures ∙ rw (c.parameter_of.ensures, c.is_integer.ensures)
+    c.cut_parameter-in-Some.ensures ∙ rw (c.parameter_of.ensures, c.is_integer.ensures)
     (cut_pieces c.args.p c.args.b c.args.along c.requires.0 c.requires.1 c.in-Some.d c.in-Some.is (search rules))
 
 pub returns-in-None : goal.returns-in-None
