@@ -4,6 +4,7 @@
 #define SUBJECT ""
 #include "check.h"
 #include <string.h>
+#include <xmmintrin.h>
 
 static bool is(smyrilox_interval x, double lower, double upper) {
     return x.lower == lower && x.upper == upper;
@@ -330,6 +331,24 @@ static void constants(void) {
     check(SMYRILOX_NO == 0x00 && SMYRILOX_UNDECIDED == 0x40 && SMYRILOX_YES == 0x80 && SMYRILOX_AREA == 0x20, "verdicts");
 }
 
+/* The flags of floating point, on which a caller may have set traps: bounds that are infinite are no invalid operation, and children that need no piece of
+ * their range make none, so that nothing overflows. */
+static void flags(void) {
+    const smyrilox_interval line = WHOLE, half = {1, INFINITE};
+    smyrilox_ranges ranges = whole;
+    uint8_t ring[256];
+    uint64_t cells[9];
+    const uint8_t no[3] = {SMYRILOX_NO, SMYRILOX_NO, SMYRILOX_NO};
+    ranges.t = (smyrilox_interval){-1e308, 0.5};
+    smyrilox_started begun = smyrilox_setup(chosen(3, 3, SMYRILOX_T), ranges, ring, sizeof ring, cells, 9);
+    check(begun.refusal == 0, "a range that overflows begins");
+    _mm_setcsr(_mm_getcsr() & ~(unsigned)_MM_EXCEPT_MASK);
+    check(smyrilox_midpoint(line).value == 0 && smyrilox_later_cut(half, false).count == 3, "lines without an end");
+    check(smyrilox_first_cut(half, true).refusal == 0 && smyrilox_is_subdivisible(line, false).value == 1, "lines without an end, cut");
+    check(smyrilox_step(begun.state, ring, sizeof ring, cells, 9, no, 3).refusal == 0, "a range that overflows, one step on");
+    check((_mm_getcsr() & (_MM_EXCEPT_INVALID | _MM_EXCEPT_OVERFLOW)) == 0, "no flag of an invalid operation or an overflow");
+}
+
 int main(void) {
     sample();
     five_by_three();
@@ -347,6 +366,7 @@ int main(void) {
     enough();
     move();
     constants();
+    flags();
     printf(failures == 0 ? "c: all as it should be\n" : "c: failed\n");
     return failures != 0;
 }
