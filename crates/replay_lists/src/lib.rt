@@ -2,6 +2,8 @@
 #![tactic(auto)]
 
 pub mod bytes;
+pub mod closures;
 pub mod list;
+mod playing;
 pub mod said;
 pub mod words;
