@@ -56,7 +56,7 @@ impl<B: Plays> Model for Callable<B> {
 }
 
 /// Plays the entries of a list, but no more than so many. Answers how many there were; none where so many were played, and more may stand behind them.
-/// A caller makes its `Callable` in a function over `B: Plays`, as the tests do.
+/// A caller makes its `Callable` in a function over `B: Plays`, as the tests do. `few`, which `played` says too, is for callers who want no more.
 pub fn play_by<B: Plays>(
     from: &mut B::Reader,
     most: u64,
